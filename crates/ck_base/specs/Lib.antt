@@ -1,0 +1,4 @@
+pub mod Name
+pub mod Text
+pub mod Entries
+pub mod Priority
