@@ -1,3 +1,5 @@
 pub mod Places
 pub mod Ordered
 pub mod Digits
+pub mod Lookups
+pub mod Scalars

@@ -11,11 +11,11 @@ both : (a b : Bool) → a ≡ true → b ≡ true → (a && b) ≡ true
 both true b p q = q
 both false b p q = p
 
-first : (a b : Bool) → (a && b) ≡ true → a ≡ true
+pub first : (a b : Bool) → (a && b) ≡ true → a ≡ true
 first true b p = refl
 first false b p = p
 
-second : (a b : Bool) → (a && b) ≡ true → b ≡ true
+pub second : (a b : Bool) → (a && b) ≡ true → b ≡ true
 second true b p = p
 second false b p = cc
 
@@ -59,13 +59,13 @@ module _ {V : Type 0} where
       ]
 
   -- a name before all names has no value
-  none_before : (key : List ℕ) (entries : List (List ℕ × V)) → below_all name_cmp key entries ≡ true → value_of key entries ≡ None
+  pub none_before : (key : List ℕ) (entries : List (List ℕ × V)) → below_all name_cmp key entries ≡ true → value_of key entries ≡ None
   none_before key [] h = refl
   none_before key (e ∷ rest) h =
       let before : name_cmp key e.0 ≡ Less = less (name_cmp key e.0) (first (is_lt (name_cmp key e.0)) (below_all name_cmp key rest) h) in
       rw before (none_before key rest (second (is_lt (name_cmp key e.0)) (below_all name_cmp key rest) h))
 
-  before_all : (key x : List ℕ) (entries : List (List ℕ × V)) → name_cmp key x ≡ Less → below_all name_cmp x entries ≡ true → below_all name_cmp key entries ≡ true
+  pub before_all : (key x : List ℕ) (entries : List (List ℕ × V)) → name_cmp key x ≡ Less → below_all name_cmp x entries ≡ true → below_all name_cmp key entries ≡ true
   before_all key x [] p h = refl
   before_all key x (e ∷ rest) p h =
       let next : name_cmp x e.0 ≡ Less = less (name_cmp x e.0) (first (is_lt (name_cmp x e.0)) (below_all name_cmp x rest) h) in

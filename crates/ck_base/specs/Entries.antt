@@ -1,5 +1,5 @@
 -- A finite map from names to values, as the list of its pairs in the order of the names' bytes.
-use Rattle.std.specs.Prelude.{◌≡◌, ℕ, ◌+◌, List, [], ◌∷◌, true, Option, Result, Ok, Err}
+use Rattle.std.specs.Prelude.{◌≡◌, ◌≢◌, ℕ, ◌+◌, List, [], ◌∷◌, true, Option, Result, Ok, Err}
 use Rattle.std.specs.Ordering.{nat_cmp, match_ordering}
 use Rattle.std.specs.declared.cmp.Ordering.{Ordering}
 use Rattle.std.specs.Cmp.Lexicographic.{slice_cmp}
@@ -30,3 +30,8 @@ without key (entry ∷ rest) = match_ordering (name_cmp key entry.0) (entry ∷ 
 abbrev pub place_from : {V : Type 0} → List ℕ → ℕ → List (List ℕ × V) → Result ℕ ℕ
 place_from key index [] = Err index
 place_from key index (entry ∷ rest) = match_ordering (name_cmp key entry.0) (Err index) (Ok index) (place_from key (index + 1) rest)
+
+-- the second map gives the name this value, or none, and each other name what the first one gives it
+pub record ChangesOnly {V : Type 0} (old new : List (List ℕ × V)) (key : List ℕ) (value : Option V) : Type 0 where
+  pub changed : value_of key new ≡ value
+  pub others : (other : List ℕ) → other ≢ key → value_of other new ≡ value_of other old

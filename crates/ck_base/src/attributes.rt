@@ -1,6 +1,7 @@
 //! The attributes of model items and of view elements, as sorted maps.
-ghost use Rattle.std.specs.Prelude.{◌≡◌, ℕ, [], ◌↔◌, IsTrue, IfOk, OnOk, OnErr, option_copied};
-ghost use Rattle.ck_base.specs.Entries.{IsOrdered, value_of, with_value, without};
+ghost use Rattle.std.specs.Prelude.{◌≡◌, ℕ, [], ◌↔◌, IsTrue, IfOk, OnOk, OnErr, Some, None, IsSome, Contains, option_copied};
+ghost use Rattle.std.specs.Map.{keys_of};
+ghost use Rattle.ck_base.specs.Entries.{IsOrdered, ChangesOnly, value_of, with_value, without};
 
 use crate::name::Name;
 use crate::text::ViewText;
@@ -40,25 +41,29 @@ impl Attrs {
 
     /// The value of a key: None exactly where the key isn't there.
     pub fn get(&self, key: &Name) -> Option<&Value>
-        ensures { option_copied result ≡ value_of key.now self.now }
+        ensures value { option_copied result ≡ value_of key.now self.now }
+        ensures there { IsSome result ↔ Contains (keys_of self.now) key.now }
     {
         entries::find(self.entries.as_slice(), key)
     }
 
     /// Gives a key this value. It answers `NoMemory` alone beside Ok, and then nothing has changed.
-    #[tactic(auto, using(crate::proofs::Ordered::ordered_with_value))]
+    #[tactic(auto, using(crate::proofs::Ordered::ordered_with_value, crate::proofs::Lookups::written))]
     pub fn set(&mut self, key: Name, value: Value) -> Result<(), NoMemory>
         ensures ok { OnOk result (self.new ≡ with_value key value self.old) }
+        ensures changes { OnOk result (ChangesOnly self.old self.new key (Some value)) }
         ensures err { OnErr result (self.new ≡ self.old) }
     {
         entries::put(&mut self.entries, key, value)
     }
 
     /// Takes a key out, and answers the value that it had: None exactly where the key wasn't there. It takes no memory.
-    #[tactic(auto, using(crate::proofs::Ordered::ordered_without))]
+    #[tactic(auto, using(crate::proofs::Ordered::ordered_without, crate::proofs::Lookups::removed))]
     pub fn remove(&mut self, key: &Name) -> Option<Value>
         ensures attributes { self.new ≡ without key.now self.old }
+        ensures changes { ChangesOnly self.old self.new key.now None }
         ensures value { result ≡ value_of key.now self.old }
+        ensures there { IsSome result ↔ Contains (keys_of self.old) key.now }
     {
         entries::remove(&mut self.entries, key)
     }
@@ -148,15 +153,17 @@ impl ViewAttrs {
 
     /// The text of a key: None exactly where the key isn't there.
     pub fn get(&self, key: &Name) -> Option<&ViewText>
-        ensures { option_copied result ≡ value_of key.now self.now }
+        ensures value { option_copied result ≡ value_of key.now self.now }
+        ensures there { IsSome result ↔ Contains (keys_of self.now) key.now }
     {
         entries::find(self.entries.as_slice(), key)
     }
 
     /// Gives a key this text. It answers `NoMemory` alone beside Ok, and then nothing has changed.
-    #[tactic(auto, using(crate::proofs::Ordered::ordered_with_value))]
+    #[tactic(auto, using(crate::proofs::Ordered::ordered_with_value, crate::proofs::Lookups::written))]
     pub fn set(&mut self, key: Name, value: ViewText) -> Result<(), NoMemory>
         ensures ok { OnOk result (self.new ≡ with_value key value self.old) }
+        ensures changes { OnOk result (ChangesOnly self.old self.new key (Some value)) }
         ensures err { OnErr result (self.new ≡ self.old) }
     {
         entries::put(&mut self.entries, key, value)

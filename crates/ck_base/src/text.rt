@@ -1,4 +1,4 @@
-ghost use Rattle.std.specs.Prelude.{◌≡◌, ◌↔◌, ℕ, true, false, length, IsTrue, IfOk, IsErrOf};
+ghost use Rattle.std.specs.Prelude.{◌≡◌, ◌↔◌, ◌≤◌, ℕ, true, false, length, encode_utf8_all, IsTrue, IfOk, IsErrOf};
 ghost use Rattle.std.specs.Str.{chars};
 ghost use Rattle.std.specs.Rc.{rc_slice_items};
 ghost use Rattle.ck_base.specs.Text.{is_within_text_limit};
@@ -27,6 +27,7 @@ pub const MOST_TEXT_BYTES: usize = 4096;
 #[derive(Debug, Drop)]
 pub struct TextVal {
     scalars: RcSlice<char>,
+    ghost fits: { is_within_text_limit (encode_utf8_all (rc_slice_items scalars)) ≡ true },
 }
 
 impl Model for TextVal {
@@ -40,6 +41,7 @@ impl Model for TextVal {
 
 impl TextVal {
     /// The text, as scalar values. It answers `TooLong` exactly where there are more than 4,096 bytes, and `NoMemory`.
+    #[tactic(auto, using(crate::proofs::Scalars::bytes_again))]
     pub fn read(alloc: Global, text: &str) -> Result<TextVal, TextFault>
         ensures ok { IfOk result (λ read. read ≡ chars text.now) }
         ensures fits { IfOk result (λ _. is_within_text_limit text.now ≡ true) }
@@ -62,9 +64,10 @@ impl TextVal {
         Ok(TextVal { scalars })
     }
 
-    /// Its Unicode scalar values, in order.
+    /// Its Unicode scalar values, in order. Their UTF-8 has at most 4,096 bytes.
     pub fn scalars(&self) -> &[char]
-        ensures { result.now ≡ self.now }
+        ensures scalars { result.now ≡ self.now }
+        ensures fits { is_within_text_limit (encode_utf8_all self.now) ≡ true }
     {
         self.scalars.as_slice()
     }
