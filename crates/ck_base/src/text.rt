@@ -1,4 +1,4 @@
-ghost use Rattle.std.specs.Prelude.{◌≡◌, ◌↔◌, ◌≤◌, ℕ, true, false, length, encode_utf8_all, IsTrue, IfOk, IsErrOf};
+ghost use Rattle.std.specs.Prelude.{◌≡◌, ◌↔◌, true, false, encode_utf8_all, IsTrue, IfOk, IsErrOf};
 ghost use Rattle.std.specs.Str.{chars};
 ghost use Rattle.std.specs.Rc.{rc_slice_items};
 ghost use Rattle.ck_base.specs.Text.{is_within_text_limit};
