@@ -7,7 +7,7 @@ use crate::NoMemory;
 use crate::name::Name;
 use crate::path::Path;
 use crate::text::scalars_of;
-use std::alloc::Global;
+use std::alloc::{AllocError, AllocFailed, Global};
 use std::marker::Model;
 
 /// Where in a JSON value a form is broken: a `/` before each field's name and each index, from the outside in. It is seen as
@@ -33,6 +33,14 @@ impl FieldPath {
         FieldPath {
             scalars: Vec::new(alloc),
         }
+    }
+
+    /// The same path. It answers `NoMemory` alone beside Ok.
+    pub fn copy(&self) -> Result<FieldPath, NoMemory>
+        ensures { IfOk result (λ path. path ≡ self.now) }
+    {
+        let scalars = self.scalars.clone()?;
+        Ok(FieldPath { scalars })
     }
 
     /// The path of the field of this name. It answers `NoMemory` alone beside Ok.
@@ -161,4 +169,26 @@ pub enum Refusal {
     Schema { rule: Rule, path: Path },
     /// Memory ran out.
     NoMemory,
+}
+
+impl From<AllocError> for Refusal {
+    ghost use Rattle.std.specs.Prelude.{◌≡◌};
+    ghost use Rattle.ck_base.specs.declared.faults.Refusal.TheVariants.{NoMemory as OutOfMemory};
+
+    ghost from_gives = { λ _ refusal. refusal ≡ OutOfMemory };
+
+    fn from(_: AllocError) -> Refusal {
+        Refusal::NoMemory
+    }
+}
+
+impl<T: Drop> From<AllocFailed<T>> for Refusal {
+    ghost use Rattle.std.specs.Prelude.{◌≡◌};
+    ghost use Rattle.ck_base.specs.declared.faults.Refusal.TheVariants.{NoMemory as OutOfMemory};
+
+    ghost from_gives = { λ _ refusal. refusal ≡ OutOfMemory };
+
+    fn from(_: AllocFailed<T>) -> Refusal {
+        Refusal::NoMemory
+    }
 }

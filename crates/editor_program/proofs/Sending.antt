@@ -1,0 +1,78 @@
+-- An output that is written piece by piece.
+use Rattle.std.proofs.Common.{◌≡◌, ℕ, ◌+◌, None, Some, IfSome, length, arith, List, [], ◌∷◌, ◌++◌, Option, take, drop, refl, sym, ap, subst, ◌∙◌, append_assoc}
+use Rattle.std.proofs.lemmas.List.{take-append-drop}
+use Rattle.std.specs.Io.KnownBytes.{append_known}
+use Rattle.ck_io.proofs.Written.{append_known-append, append_known-nil}
+use Rattle.machine_definitions.specs.Lines.{lines_of}
+use Rattle.machine_definitions.specs.Output.{answer, answers}
+use Rattle.editor_program.specs.Sent.{SendsUpTo, SendsFront}
+
+-- nothing was written yet
+pub sends_none : (known : Option (List ℕ)) (all : List ℕ) → SendsUpTo known known all all
+sends_none known all = ([], sym (append_known-nil known), refl)
+
+-- the next piece was written
+pub sends_piece : (old mid new : Option (List ℕ)) (all piece rest : List ℕ) → SendsUpTo old mid all (piece ++ rest) → new ≡ append_known mid piece → SendsUpTo old new all rest
+sends_piece old mid new all piece rest h e = (
+  h.0 ++ piece,
+  e ∙ ap (λ known. append_known known piece) h.1 ∙ append_known-append old h.0 piece,
+  append_assoc h.0 piece rest ∙ h.2,
+)
+
+-- a front of the next piece was written
+pub sends_part : (old mid new : Option (List ℕ)) (all piece rest : List ℕ) (count : ℕ) → SendsUpTo old mid all (piece ++ rest) → new ≡ append_known mid (take count piece) → SendsFront old new all
+sends_part old mid new all piece rest count h e =
+    let cut : take count piece ++ (drop count piece ++ rest) ≡ piece ++ rest = sym (append_assoc (take count piece) (drop count piece) rest) ∙ ap (λ xs. xs ++ rest) (take-append-drop count piece) in
+    let whole : SendsUpTo old mid all (take count piece ++ (drop count piece ++ rest)) = (h.0, h.1, ap (λ xs. h.0 ++ xs) cut ∙ h.2) in
+    (drop count piece ++ rest, sends_piece old mid new all (take count piece) (drop count piece ++ rest) whole e)
+
+append_nil : (xs : List ℕ) → xs ++ [] ≡ xs
+append_nil [] = refl
+append_nil (x ∷ xs) = ap (λ ys. x ∷ ys) (append_nil xs)
+
+-- nothing is left to write
+pub sends_all : (old new : Option (List ℕ)) (all : List ℕ) → SendsUpTo old new all [] → new ≡ append_known old all
+sends_all old new all h = h.1 ∙ ap (append_known old) (sym (append_nil h.0) ∙ h.2)
+
+-- the answers to the lines of a text, from its first line on
+pub answers_next : (paragraph : List ℕ) (number : ℕ) (text line rest : List ℕ) → lines_of text ≡ line ∷ lines_of rest → answers paragraph number (lines_of text) ≡ (answer paragraph number line).text ++ answers (answer paragraph number line).paragraph (number + 1) (lines_of rest)
+unfolding answers
+answers_next paragraph number text line rest e = ap (answers paragraph number) e
+
+-- the first bytes of a text were written
+pub front_of : (old new : Option (List ℕ)) (all : List ℕ) (count : ℕ) → new ≡ append_known old (take count all) → SendsFront old new all
+front_of old new all count e = (drop count all, (take count all, e, take-append-drop count all))
+
+-- the answer to the next line was written
+pub sends_answer : (old mid new : Option (List ℕ)) (all paragraph : List ℕ) (number : ℕ) (text line rest bytes : List ℕ)
+    → lines_of text ≡ line ∷ lines_of rest → SendsUpTo old mid all (answers paragraph number (lines_of text))
+    → bytes ≡ (answer paragraph number line).text → new ≡ append_known mid bytes
+    → SendsUpTo old new all (answers (answer paragraph number line).paragraph (number + 1) (lines_of rest))
+sends_answer old mid new all paragraph number text line rest bytes split sends same grew =
+    let later = answers (answer paragraph number line).paragraph (number + 1) (lines_of rest) in
+    sends_piece old mid new all (answer paragraph number line).text later
+    (subst (SendsUpTo old mid all) (answers_next paragraph number text line rest split) sends)
+    (grew ∙ ap (append_known mid) same)
+
+-- a front of the answer to the next line was written
+pub sends_part_of_answer : (old mid new : Option (List ℕ)) (all paragraph : List ℕ) (number : ℕ) (text line rest bytes : List ℕ) (count : ℕ)
+    → lines_of text ≡ line ∷ lines_of rest → SendsUpTo old mid all (answers paragraph number (lines_of text))
+    → bytes ≡ (answer paragraph number line).text → new ≡ append_known mid (take count bytes)
+    → SendsFront old new all
+sends_part_of_answer old mid new all paragraph number text line rest bytes count split sends same grew =
+    let later = answers (answer paragraph number line).paragraph (number + 1) (lines_of rest) in
+    sends_part old mid new all (answer paragraph number line).text later count
+    (subst (SendsUpTo old mid all) (answers_next paragraph number text line rest split) sends)
+    (grew ∙ ap (λ xs. append_known mid (take count xs)) same)
+
+-- no line is left
+pub sends_to_end : (old new : Option (List ℕ)) (all paragraph : List ℕ) (number : ℕ) (text : List ℕ)
+    → length text ≡ 0 → SendsUpTo old new all (answers paragraph number (lines_of text)) → new ≡ append_known old all
+unfolding answers
+sends_to_end old new all paragraph number [] none sends = sends_all old new all sends
+sends_to_end old new all paragraph number (b ∷ text) none sends = absurd (omega arith)
+
+-- nothing was written, whatever is held
+pub sends_nothing : {Held : Type 0} (known : Option (List ℕ)) (holds : Option Held) (all : Held → List ℕ) → IfSome holds (λ held. SendsFront known known (all held))
+sends_nothing known None all = tt
+sends_nothing known (Some held) all = (all held, sends_none known (all held))

@@ -1,0 +1,4 @@
+pub mod Json
+pub mod OtherFields
+pub mod Offsets
+pub mod OnlyItem
