@@ -6,6 +6,8 @@ mod paragraph;
 mod printing;
 mod reading;
 pub mod run;
+#[cfg(test)]
+mod tests;
 
 use ck_io::{RealFiles, RealSink};
 use run::{Status, run};
