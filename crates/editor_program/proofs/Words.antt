@@ -1,5 +1,5 @@
 -- The words of the command line, read at their places.
-use Rattle.std.proofs.Common.{◌≡◌, ◌≢◌, ℕ, List, [], ◌∷◌, Bool, true, false, Option, Some, None, if◌then◌else◌, ◌&&◌, map, String, string_bytes, Global, length, slice_index_or, codes, refl, arith}
+use Rattle.std.proofs.Common.{◌≡◌, ◌≢◌, List, [], ◌∷◌, Some, None, if◌then◌else◌, ◌&&◌, map, String, string_bytes, Global, length, slice_index_or, codes, refl, arith}
 use Rattle.std.specs.Str.{bytes_eq}
 use Rattle.machine_definitions.specs.Output.{script_named, is_file_name}
 

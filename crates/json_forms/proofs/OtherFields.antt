@@ -1,5 +1,5 @@
 -- The first key among an object's members that isn't named is the first of its keys that a search finds.
-use Rattle.std.proofs.Common.{◌≡◌, ℕ, List, [], ◌∷◌, Bool, true, false, not, cond, Option, Some, None, option_map, map, String, string_bytes, Global, refl, sym, ap, ◌∙◌, find, ◌||◌}
+use Rattle.std.proofs.Common.{◌≡◌, ℕ, List, [], ◌∷◌, true, false, not, cond, Option, Some, None, option_map, map, String, string_bytes, Global, refl, sym, ap, ◌∙◌, find, ◌||◌}
 use Rattle.std.specs.Option.{option_copied}
 use Rattle.std.specs.Borrow.{Bor}
 use Rattle.std.specs.Str.{bytes_eq}

@@ -1,11 +1,11 @@
 -- Reading a form from a JSON value. What breaks the form first is refused with its path: `/` and the field's name or the index,
 -- from the outside in.
-use Rattle.std.specs.Prelude.{◌≡◌, ◌≢◌, ℕ, ◌+◌, ◌<◌, ◌^◌, List, [], ◌∷◌, ◌++◌, Bool, true, false, not, nat_lt, nat_le, Option, Some, None, Result, Ok, Err, if◌then◌else◌, codes, length, option_and_then, ⊤}
+use Rattle.std.specs.Prelude.{◌≡◌, ◌≢◌, ℕ, ◌+◌, ◌^◌, List, [], ◌∷◌, ◌++◌, Bool, false, nat_lt, Option, Some, None, Result, Ok, Err, if◌then◌else◌, length, option_and_then, ⊤}
 use Rattle.std.specs.Str.{chars, is_utf8, bytes_eq}
 use Rattle.std.specs.Fmt.{decimal}
 use Rattle.std.specs.List.{list_any}
-use Rattle.serde_json.specs.Data.{Data, null, boolean, number, string, array, object, Items, no_items, item, Members, no_members, member}
-use Rattle.serde_json.specs.Find.{get, as_bool, as_number, as_str, as_array, as_object, as_u64}
+use Rattle.serde_json.specs.Data.{Data, object, Items, no_items, item, Members, no_members, member}
+use Rattle.serde_json.specs.Find.{get, as_number, as_str, as_array, as_object, as_u64}
 use Rattle.serde_json.specs.Read.{read}
 use Rattle.json_forms.specs.declared.fault.FormFault.{FormFault}
 use Rattle.json_forms.specs.declared.fault.FormFault.TheVariants.{NotJson, BadField, NoMemory}
@@ -44,7 +44,7 @@ json_of line = if is_utf8 line then or_not_json (read line) else Err NotJson
 
 -- an object, whose fields are then read
 unfoldable pub object_at : List ℕ → Data → Result ⊤ FormFault
-object_at path (object members) = Ok tt
+object_at path (object fields) = Ok tt
 object_at path other = Err (BadField path)
 
 -- a field that has to be there

@@ -3,8 +3,6 @@ use Rattle.std.specs.Prelude.{ℕ, List, [], ◌∷◌, ◌++◌, ◌&&◌, ◌=
 use Rattle.ck_base.specs.declared.faults.Refusal.{Refusal}
 use Rattle.ck_base.specs.declared.faults.Refusal.TheVariants.{Edit}
 use Rattle.ck_base.specs.declared.faults.EditFault.TheVariants.{BadPosition}
-use Rattle.machine_definitions.specs.declared.request.Request.{Request}
-use Rattle.machine_definitions.specs.declared.request.Request.TheVariants.{InsertText, Show}
 
 -- `[0,o]`, with an offset o of at most the paragraph's length
 abbrev pub is_in_paragraph : List ℕ → List ℕ → Bool

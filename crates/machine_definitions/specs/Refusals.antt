@@ -1,5 +1,5 @@
 -- The printed texts of refusals: the refusal's name, and its fields in order, behind one blank each.
-use Rattle.std.specs.Prelude.{ℕ, List, [], ◌∷◌, ◌++◌, codes}
+use Rattle.std.specs.Prelude.{ℕ, List, ◌++◌, codes}
 use Rattle.std.specs.Fmt.{decimal}
 use Rattle.ck_base.specs.declared.faults.Refusal.{Refusal}
 use Rattle.ck_base.specs.declared.faults.Refusal.TheVariants.{NotJson, BadField, ChangesSpent, UnknownCommand, BadArgument, Disabled, NothingToUndo, NothingToRedo, NotInView, ViewTooDeep, Edit, FixerRefused, NotSettled, Schema, NoMemory}

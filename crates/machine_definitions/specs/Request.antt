@@ -2,7 +2,7 @@
 --     {"do":"change","edits":[EDIT]}          EDIT is {"edit":"insertText","at":POSITION,"text":TEXT}
 --     {"do":"show","selection":false}
 -- An object is tested field by field in that order, and then for fields that aren't named.
-use Rattle.std.specs.Prelude.{ℕ, List, [], ◌∷◌, ◌++◌, Bool, false, Option, Some, None, Result, Ok, Err, if◌then◌else◌, codes, option_and_then, ⊤}
+use Rattle.std.specs.Prelude.{ℕ, List, [], ◌∷◌, Bool, Option, Some, None, Result, Ok, Err, if◌then◌else◌, codes, option_and_then, ⊤}
 use Rattle.std.specs.Str.{chars, bytes_eq}
 use Rattle.serde_json.specs.Data.{Data}
 use Rattle.serde_json.specs.Find.{get, as_bool}

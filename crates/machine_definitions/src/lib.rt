@@ -2,4 +2,5 @@
 //! texts, and the whole output. Code stands only where a law or a worked example is computed.
 #![tactic(auto)]
 
+pub mod examples;
 pub mod request;

@@ -1,5 +1,5 @@
 use Rattle.std.proofs.Common.{◌≡◌, length, arith}
-use Rattle.editor_program.proofs.FirstLine.{NoneBefore, line_ends, line_goes_on, line_is_last}
+use Rattle.editor_program.proofs.FirstLine.{line_ends, line_goes_on, line_is_last}
 use Rattle.editor_program.proofs.lines.split_line.Goals as goal
 
 pub returns-then-byte-eq10-clause-lines : goal.returns-then-byte-eq10-clause-lines

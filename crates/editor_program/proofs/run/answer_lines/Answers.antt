@@ -1,7 +1,7 @@
-use Rattle.std.proofs.Common.{◌≡◌, ℕ, ◌+◌, List, subst, [], length, ap, sym, ◌∙◌, arith, string_bytes}
+use Rattle.std.proofs.Common.{◌≡◌, ℕ, ◌+◌, List, subst, [], length, sym, ◌∙◌, arith}
 use Rattle.std.proofs.lemmas.Bool.Decides.{nat_tests}
 use Rattle.machine_definitions.specs.Lines.{lines_of}
-use Rattle.machine_definitions.specs.Output.{answer, answers}
+use Rattle.machine_definitions.specs.Output.{answers}
 use Rattle.editor_program.specs.Sent.{SendsUpTo}
 use Rattle.editor_program.proofs.Sending.{sends_answer, sends_part_of_answer, sends_to_end}
 use Rattle.editor_program.proofs.run.answer_lines.Goals as goal
