@@ -1,3 +1,4 @@
 pub mod Sent
 pub mod Status
 pub mod Ends
+pub mod Unanswered

@@ -1,16 +1,17 @@
 //! The top call: from the words of the command line to the bytes written and the status.
-ghost use Rattle.std.specs.Prelude.{◌≡◌, ◌≢◌, ◌≤◌, ◌⊎◌, ℕ, List, [], true, Option, Some, None, map, option_map, string_bytes, length, IfSome, IsSomeAnd};
+ghost use Rattle.std.specs.Prelude.{◌≡◌, ◌≢◌, ◌≤◌, ◌⊎◌, ℕ, List, [], true, Option, Some, None, map, option_map, string_bytes, length, IfErr, IfSome, IsSomeAnd, OnOk, OnErr};
 ghost use Rattle.std.specs.Io.KnownBytes.{append_known};
 ghost use Rattle.ck_io.specs.Rose.{Rose};
 ghost use Rattle.editor_program.specs.Sent.{SendsFront};
 ghost use Rattle.editor_program.specs.Ends.{IsOutcome, ShowsUsage, IsMissing};
+ghost use Rattle.editor_program.specs.Unanswered.{SendsPart, Fails};
 ghost use Rattle.editor_program.specs.Status.{status_code, is_status};
 ghost use Rattle.machine_definitions.specs.Lines.{lines_of};
-ghost use Rattle.machine_definitions.specs.Output.{answers, is_file_name, script_named, usage, most_script_bytes, output};
+ghost use Rattle.machine_definitions.specs.Output.{answer, answers, is_file_name, script_named, usage, most_script_bytes, output};
 
 use crate::lines::split_line;
 use crate::paragraph::Paragraph;
-use ck_io::{FetchFault, Files, Sink, write_whole};
+use ck_io::{FetchFault, Files, Sink, WholeFault, write_whole};
 use std::alloc::Global;
 
 /// How a run ends.
@@ -89,6 +90,40 @@ fn show_usage<S: Sink>(out: &mut S) -> Status
     }
 }
 
+/// Why a line has no answer.
+#[derive(Debug, Drop)]
+enum Unanswered {
+    /// Memory ran out; nothing was written.
+    NoMemory,
+    /// A write failed.
+    NotWritten(WholeFault),
+}
+
+/// Answers one line, in one piece.
+fn answer_line<S: Sink>(
+    alloc: Global,
+    paragraph: &mut Paragraph,
+    number: u64,
+    line: &[u8],
+    out: &mut S,
+) -> Result<(), Unanswered>
+    ensures written { OnOk result (S.written out.new
+        ≡ append_known (S.written out.old) (answer paragraph.old number line.now).text) }
+    ensures paragraph { OnOk result (paragraph.new ≡ (answer paragraph.old number line.now).paragraph) }
+    ensures calm { OnOk result (S.faults out.new ≡ S.faults out.old) }
+    ensures part { IfErr result (λ fault.
+        SendsPart fault (S.written out.old) (S.written out.new) (answer paragraph.old number line.now).text) }
+    ensures failed { IfErr result (λ fault. Fails fault (S.faults out.old) (S.faults out.new)) }
+{
+    let Ok(text) = paragraph.answer(alloc, number, line) else {
+        return Err(Unanswered::NoMemory);
+    };
+    match write_whole(out, text.as_bytes()) {
+        Ok(()) => Ok(()),
+        Err(fault) => Err(Unanswered::NotWritten(fault)),
+    }
+}
+
 /// Answers the lines of a script in order, each answer in one piece.
 fn answer_lines<S: Sink>(alloc: Global, script: &[u8], out: &mut S) -> Status
     requires { length script.now ≤ most_script_bytes }
@@ -103,12 +138,10 @@ fn answer_lines<S: Sink>(alloc: Global, script: &[u8], out: &mut S) -> Status
     let mut rest = script;
     while !rest.is_empty() {
         let (line, after) = split_line(rest);
-        let Ok(answer) = paragraph.answer(alloc, number, line) else {
-            return Status::NoMemory;
-        };
-        match write_whole(out, answer.as_bytes()) {
+        match answer_line(alloc, &mut paragraph, number, line, out) {
             Ok(()) => {}
-            Err(_) => return Status::NotWritten,
+            Err(Unanswered::NoMemory) => return Status::NoMemory,
+            Err(Unanswered::NotWritten(_)) => return Status::NotWritten,
         }
         number += 1;
         rest = after;
