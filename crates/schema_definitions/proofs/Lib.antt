@@ -1,0 +1,5 @@
+pub mod Members
+pub mod Steps
+pub mod Reach
+pub mod Pairs
+pub mod Least

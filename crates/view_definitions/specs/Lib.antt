@@ -1,0 +1,6 @@
+pub mod Node
+pub mod NodeCode
+pub mod Layer
+pub mod Row
+pub mod Place
+pub mod Sample

@@ -1,0 +1,35 @@
+//! What the nodes of a view are, and how a row of layered entries nests to nodes, as definitions in `specs/`, and the laws that hold of
+//! them. It has no program code: each function here is a law or a worked example, which its clauses state.
+#![tactic(auto)]
+
+ghost use Rattle.std.specs.Prelude.{◌≡◌, ◌++◌, [], List};
+ghost use Rattle.std.specs.Cmp.{IsTotalOrder};
+ghost use Rattle.std.specs.declared.cmp.Ordering.TheVariants.{Equal};
+ghost use Rattle.view_definitions.specs.Node.{ViewNode};
+ghost use Rattle.view_definitions.specs.Layer.{Layer, layer_cmp};
+ghost use Rattle.view_definitions.specs.Row.{Entry, IsPlainRow, nest, nest_by_rule, join};
+
+pub mod examples;
+
+/// The order of layers is total, and of two layers neither of which stands outside the other, each is the other.
+pub fn layers_are_in_order()
+    ensures total { IsTotalOrder layer_cmp }
+    ensures ties { (layer other : Layer) → layer_cmp layer other ≡ Equal → layer ≡ other }
+{}
+
+/// A row nests by the rule.
+pub fn nest_keeps_the_rule()
+    ensures { (row : List Entry) → nest row ≡ nest_by_rule row }
+{}
+
+/// Two rows without the caret, one behind the other, nest to what each of them nests to, joined where they meet.
+pub fn nest_of_rows_joined()
+    ensures { (row other : List Entry) → IsPlainRow row → IsPlainRow other
+        → nest (row ++ other) ≡ join (nest row) (nest other) }
+{}
+
+/// Lists of nodes may be joined in any order of steps, and an empty list adds nothing.
+pub fn join_is_associative()
+    ensures steps { (nodes others last : List ViewNode) → join nodes (join others last) ≡ join (join nodes others) last }
+    ensures none_behind { (nodes : List ViewNode) → join nodes [] ≡ nodes }
+{}
