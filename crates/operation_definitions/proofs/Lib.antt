@@ -1,0 +1,13 @@
+pub mod Lifting
+pub mod Levels
+pub mod Cells
+pub mod Steps
+pub mod Simple
+pub mod Names
+pub mod Elements
+pub mod Moves
+pub mod Stays
+pub mod Moved
+pub mod Keys
+pub mod Values
+pub mod Reversal
