@@ -1,0 +1,5 @@
+pub mod Markers
+pub mod Selection
+pub mod Document
+pub mod Sound
+pub mod Sample
