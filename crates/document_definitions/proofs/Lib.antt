@@ -1,0 +1,8 @@
+mod Inside
+mod Parted
+mod Kept
+mod Halves
+mod Runs
+mod Same
+pub mod Ranges
+pub mod Limits

@@ -1,5 +1,31 @@
-//! What a document is, and what an operation makes of it, as definitions in `specs/`. It has no program code: each function here is a
-//! law or a worked example, which its clauses state.
+//! What a document is, and what an operation makes of it, as definitions in `specs/`, and the laws that hold of them. It has no program
+//! code: each function here is a law or a worked example, which its clauses state.
 #![tactic(auto)]
 
+ghost use Rattle.std.specs.Prelude.{◌≡◌, ℕ, List, Ok};
+ghost use Rattle.item_definitions.specs.Item.{Item};
+ghost use Rattle.item_definitions.specs.Children.{child_count};
+ghost use Rattle.item_definitions.specs.Position.{Range, IsIn, IsRange};
+ghost use Rattle.item_definitions.specs.Shift.{IsWithinLimits, carry_range, carried_ends};
+ghost use Rattle.operation_definitions.specs.Operation.{Operation};
+ghost use Rattle.operation_definitions.specs.After.{after};
+ghost use Rattle.operation_definitions.specs.Reversed.{IsLimited, HasPlaces};
+ghost use Rattle.document_definitions.specs.Document.{shift_of};
+
 pub mod examples;
+
+/// Where an operation isn't refused, each range of the tree is in the tree that it makes, where the operation carries it.
+pub fn operations_keep_ranges()
+    ensures { (items : List Item) (cells : List (List Item)) (operation : Operation) (made : List Item × List (List Item)) (range : Range)
+        → HasPlaces operation → after items cells operation ≡ Ok made → IsRange (child_count items) range
+        → IsRange (child_count made.0) (carry_range (shift_of operation) range) }
+{}
+
+/// A position of a tree that keeps to its limits has at most 65 numbers, each below 2^32; and each end of a range of the tree is carried to
+/// such a position by each operation that isn't refused.
+pub fn positions_keep_to_the_limits()
+    ensures there { (items : List Item) (position : List ℕ) → IsLimited items → IsIn items position → IsWithinLimits position }
+    ensures carried { (items : List Item) (cells : List (List Item)) (operation : Operation) (made : List Item × List (List Item)) (range : Range)
+        → HasPlaces operation → after items cells operation ≡ Ok made → IsRange (child_count items) range
+        → IsWithinLimits (carried_ends (shift_of operation) range).start × IsWithinLimits (carried_ends (shift_of operation) range).end }
+{}
