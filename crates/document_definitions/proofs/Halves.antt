@@ -4,21 +4,21 @@ use Rattle.std.specs.Option.{option_map_or, option_map}
 use Rattle.std.proofs.lemmas.Bool.Decides.{nat_tests}
 use Rattle.std.proofs.lemmas.List.{take-append-drop}
 use Rattle.item_definitions.specs.Item.{Item, inner, with_inner}
-use Rattle.item_definitions.specs.Shift.{Stick, is_to_next, comes_before, rule_split, rule_cut, rule_merge, rule_join}
+use Rattle.item_definitions.specs.Shift.{Stick, is_to_next, comes_before, rule_split, rule_merge}
 use Rattle.operation_definitions.specs.Level.{one_item, split_item, split_at, merge_items, merge_at}
 use Rattle.operation_definitions.proofs.Lifting.{map-some, then-some, inner-with_inner}
 use Rattle.operation_definitions.proofs.Moves.{decide}
 use Rattle.document_definitions.proofs.Inside.{Inside, in_at, inside-at, inside-in}
-use Rattle.document_definitions.proofs.Parted.{Parted, replacing, get-front, get-back, lengths, room, get-before, get-behind, get-old, get-new}
+use Rattle.document_definitions.proofs.Parted.{replacing, get-front, get-back, lengths, room, get-before, get-behind, get-old, get-new}
 
 -- an element split in two
-record Split (at : ℕ) (shell : Item → Item) (run new : List Item) : Type 0 where
-  item : Item
-  items : List Item
-  one : run ≡ item ∷ []
-  here : inner item ≡ Some items
-  fits : at ≤ length items
-  two : new ≡ with_inner (take at items) item ∷ with_inner (drop at items) (shell item) ∷ []
+pub record Split (at : ℕ) (shell : Item → Item) (run new : List Item) : Type 0 where
+  pub item : Item
+  pub items : List Item
+  pub one : run ≡ item ∷ []
+  pub here : inner item ≡ Some items
+  pub fits : at ≤ length items
+  pub two : new ≡ with_inner (take at items) item ∷ with_inner (drop at items) (shell item) ∷ []
 
 -- the two parts, where the test is true
 abbrev parts : ℕ → Item → Item → List Item → Bool → Option (List Item × Item)
@@ -35,7 +35,7 @@ cut-there : (at : ℕ) (shell item : Item) (items new : List Item) (r : Item) (t
 cut-there at shell item items new r true t e = (grind (arith, nat_tests), sym (ap (λ (o : Option (List Item × Item)). option_map_or (λ (m : List Item × Item). m.0) o []) e))
 cut-there at shell item items new r false t e = absurd cc
 
-split-parts : (at : ℕ) (shell : Item → Item) (run new : List Item) (r : Item) → one_item (λ item. split_item at (shell item) item) run ≡ Some (new, r) → Split at shell run new
+pub split-parts : (at : ℕ) (shell : Item → Item) (run new : List Item) (r : Item) → one_item (λ item. split_item at (shell item) item) run ≡ Some (new, r) → Split at shell run new
 split-parts at shell [] new r e = absurd cc
 split-parts at shell (item ∷ next ∷ run) new r e = absurd cc
 split-parts at shell (item ∷ []) new r e =
@@ -140,18 +140,19 @@ record Joined (right count : ℕ) (xs ys : List Item) : Type 0 where
   before : (i : ℕ) → i + 1 < right → slice_get ys i ≡ slice_get xs i
   behind : (i : ℕ) → right < i → slice_get ys (i - 1) ≡ slice_get xs i
 
-record Merged (run new : List Item) (r : Item × ℕ) : Type 0 where
-  left : Item
-  other : Item
-  front : List Item
-  back : List Item
-  two : run ≡ left ∷ other ∷ []
-  first : inner left ≡ Some front
-  second : inner other ≡ Some back
-  one : new ≡ with_inner (front ++ back) left ∷ []
-  many : length front ≡ r.1
+pub record Merged (run new : List Item) (r : Item × ℕ) : Type 0 where
+  pub left : Item
+  pub other : Item
+  pub front : List Item
+  pub back : List Item
+  pub two : run ≡ left ∷ other ∷ []
+  pub first : inner left ≡ Some front
+  pub second : inner other ≡ Some back
+  pub one : new ≡ with_inner (front ++ back) left ∷ []
+  pub many : length front ≡ r.1
+  pub emptied : r.0 ≡ with_inner [] other
 
-merged-parts : (run new : List Item) (r : Item × ℕ) → merge_items run ≡ Some (new, r) → Merged run new r
+pub merged-parts : (run new : List Item) (r : Item × ℕ) → merge_items run ≡ Some (new, r) → Merged run new r
 merged-parts [] new r e = absurd cc
 merged-parts (left ∷ []) new r e = absurd cc
 merged-parts (left ∷ other ∷ next ∷ run) new r e = absurd cc
@@ -170,6 +171,7 @@ merged-parts (left ∷ other ∷ []) new r e =
       second = b.1;
       one = sym (ap (λ (m : List Item × (Item × ℕ)). m.0) b.2);
       many = ap (λ (m : List Item × (Item × ℕ)). m.1.1) b.2;
+      emptied = sym (ap (λ (m : List Item × (Item × ℕ)). m.1.0) b.2);
     }
 
 joined : (right : ℕ) (xs ys : List Item) (r : Item × ℕ) → 0 < right → merge_at right xs ≡ Some (ys, r) → Joined right r.1 xs ys

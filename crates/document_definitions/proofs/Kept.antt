@@ -1,9 +1,9 @@
 -- Each change of one list keeps positions in it, by the rule for its parent.
-use Rattle.std.proofs.Common.{◌≡◌, ℕ, zero, suc, ◌+◌, ◌-◌, ◌<◌, ◌≤◌, Bool, true, false, ◌&&◌, ◌||◌, nat_lt, nat_le, ◌==◌, if◌then◌else◌, List, [], ◌∷◌, ◌++◌, length, Option, Some, None, slice_get, refl, sym, ap, ◌∙◌, subst, arith, append-nil}
+use Rattle.std.proofs.Common.{◌≡◌, ℕ, ◌+◌, ◌-◌, ◌<◌, ◌≤◌, Bool, true, false, nat_le, if◌then◌else◌, List, [], ◌∷◌, ◌++◌, length, Option, Some, refl, sym, ap, ◌∙◌, subst, arith, append-nil}
 use Rattle.std.specs.Option.{option_map_or}
 use Rattle.std.proofs.lemmas.Bool.Decides.{nat_tests}
 use Rattle.item_definitions.specs.Item.{Item}
-use Rattle.item_definitions.specs.Shift.{Stick, is_to_next, comes_before, rule_insert, rule_remove}
+use Rattle.item_definitions.specs.Shift.{Stick, comes_before, rule_insert, rule_remove}
 use Rattle.operation_definitions.specs.Level.{put_in, take_out}
 use Rattle.document_definitions.proofs.Inside.{Inside, inside-at}
 use Rattle.document_definitions.proofs.Parted.{Parted, replacing, lengths, room, get-before, get-behind}

@@ -6,3 +6,5 @@ mod Runs
 mod Same
 pub mod Ranges
 pub mod Limits
+mod Ids
+pub mod Soundness

@@ -1,27 +1,26 @@
 -- Each operation carries positions and ranges that are in the tree into the tree that it makes.
-use Rattle.std.proofs.Common.{◌≡◌, ◌≢◌, ℕ, ◌-◌, ◌<◌, ◌≤◌, Bool, true, false, not, ◌&&◌, nat_eq, nat_lt, nat_le, if◌then◌else◌, List, [], ◌∷◌, ◌++◌, length, set, Option, Some, None, ok_or, Result, Ok, Err, refl, sym, ap, ◌∙◌, subst, arith}
+use Rattle.std.proofs.Common.{◌≡◌, ◌≢◌, ℕ, ◌-◌, ◌<◌, Bool, true, false, not, nat_eq, nat_lt, nat_le, if◌then◌else◌, List, [], ◌∷◌, ◌++◌, length, set, Some, ok_or, Result, Ok, refl, sym, ap, subst, arith}
 use Rattle.std.specs.Cmp.Lexicographic.{pointwise}
 use Rattle.std.proofs.lemmas.Bool.Decides.{nat_tests}
-use Rattle.ck_base.specs.declared.value.Value.{Value as AttributeValue}
-use Rattle.item_definitions.specs.Item.{Item, Items, character, element, none, more, list_of, inner}
+use Rattle.item_definitions.specs.Item.{Item, character, element, none, more, inner}
 use Rattle.item_definitions.specs.Children.{Change, parent_of, offset_of, at, child_count}
-use Rattle.item_definitions.specs.Position.{Range, between, IsIn, IsRange, not_after, is_before}
+use Rattle.item_definitions.specs.Position.{Range, between, IsRange, not_after, is_before}
 use Rattle.item_definitions.specs.Shift as shifts
 use Rattle.item_definitions.specs.Shift.{Stick, Shift, to_next, to_previous, stay, remove, carry, carry_insert, carry_remove, carried_ends, carry_range, within, rule_insert, rule_remove, rule_split, rule_merge, lies_in_run, with_run, forward}
 use Rattle.item_definitions.proofs.Order.{not_after-itself}
 use Rattle.operation_definitions.specs.Level.{put_in, take_out, give, rename_at, split_at, merge_at}
-use Rattle.operation_definitions.specs.Operation.{Fault, Place, Operation, in_tree, in_cell, Source, fresh, from_cell, insert, move, attribute, rename, split, merge, marker, no_place, not_flat, into_itself, old_differs, not_neighbours, cell_state, found_name}
+use Rattle.operation_definitions.specs.Operation.{Fault, Operation, in_tree, in_cell, fresh, from_cell, insert, move, attribute, rename, split, merge, marker, no_place, not_flat, into_itself, old_differs, not_neighbours, cell_state, found_name}
 use Rattle.operation_definitions.specs.After.{◌>>=◌, check, after, effect, in_cell_at, is_free, fill, holds_count, shell_of, like, stands, is_in_run, have_value}
 use Rattle.operation_definitions.specs.Reversed.{HasPlaces}
 use Rattle.operation_definitions.proofs.Cells.{holds-long}
 use Rattle.operation_definitions.proofs.Steps.{step-ok, ok_or-some, check-true}
-use Rattle.operation_definitions.proofs.Names.{same_numbers, target-above, target-parent, target-index, target-offset}
+use Rattle.operation_definitions.proofs.Names.{same_numbers, target-offset}
 use Rattle.operation_definitions.proofs.Simple.{State, after-effect, pair-first, run-long}
 use Rattle.document_definitions.specs.Document.{shift_of}
 use Rattle.document_definitions.proofs.Inside.{Inside, inside, placed, keeps}
 use Rattle.document_definitions.proofs.Kept.{insert-keeps, remove-keeps}
 use Rattle.document_definitions.proofs.Halves.{split-keeps, merge-keeps, IsShell}
-use Rattle.document_definitions.proofs.Runs.{run-ends, run-goes, before-not_after}
+use Rattle.document_definitions.proofs.Runs.{run-ends, run-goes}
 use Rattle.document_definitions.proofs.Same.{within-same_path, give-keeps, rename-keeps}
 
 -- a shift takes each position of a list into another one, with either stick
@@ -47,7 +46,7 @@ like-shell : (id : ℕ) → IsShell (like id)
 like-shell id (character scalar attributes) items e = absurd cc
 like-shell id (element old name attributes children) items e = ([], refl)
 
-shell-inner : (xs : List Item) (shell : Item) → shell_of xs ≡ Some shell → inner shell ≡ Some []
+pub shell-inner : (xs : List Item) (shell : Item) → shell_of xs ≡ Some shell → inner shell ≡ Some []
 shell-inner [] shell e = absurd cc
 shell-inner (character scalar attributes ∷ []) shell e = absurd cc
 shell-inner (element id name attributes none ∷ []) shell e = (let same : element id name attributes none ≡ shell = cc in ap inner (sym same))

@@ -1,6 +1,6 @@
 -- Positions in a run of items that moves go with it.
-use Rattle.std.proofs.Common.{◌≡◌, ◌≢◌, ℕ, zero, suc, ◌+◌, ◌-◌, ◌<◌, ◌≤◌, ◌⊎◌, inl, inr, Bool, true, false, not, ◌&&◌, ◌||◌, nat_lt, nat_le, ◌==◌, if◌then◌else◌, List, [], ◌∷◌, ◌++◌, length, Option, Some, None, unwrap_or, slice_get, refl, sym, ap, ◌∙◌, subst, arith}
-use Rattle.std.specs.Ordering.{is_le, ordering_reverse, nat_cmp}
+use Rattle.std.proofs.Common.{◌≡◌, ◌≢◌, ℕ, ◌+◌, ◌-◌, ◌<◌, ◌≤◌, ◌⊎◌, inl, inr, Bool, true, false, not, ◌&&◌, ◌||◌, nat_lt, ◌==◌, if◌then◌else◌, List, [], ◌∷◌, ◌++◌, Some, None, unwrap_or, refl, sym, ap, ◌∙◌, subst, arith}
+use Rattle.std.specs.Ordering.{is_le, ordering_reverse}
 use Rattle.std.specs.declared.cmp.Ordering.{Ordering}
 use Rattle.std.specs.declared.cmp.Ordering.TheVariants.{Less, Equal, Greater}
 use Rattle.std.specs.Cmp.Lexicographic.{nat_list_cmp_total}
@@ -9,10 +9,9 @@ use Rattle.item_definitions.specs.Item.{Item}
 use Rattle.item_definitions.specs.Children.{at, parent_of, offset_of}
 use Rattle.item_definitions.specs.Position.{Range, position_cmp, not_after, is_before}
 use Rattle.item_definitions.specs.Shift.{rest_behind, forward, lies_in_run, with_run, run_place}
-use Rattle.item_definitions.proofs.Order.{not_after-cons, not_after-none}
+use Rattle.item_definitions.proofs.Order.{not_after-cons}
 use Rattle.operation_definitions.specs.Level.{put_in, take_out}
-use Rattle.operation_definitions.proofs.Moves.{decide}
-use Rattle.document_definitions.proofs.Inside.{Inside, in_at, inside-at, inside-in, Through, through}
+use Rattle.document_definitions.proofs.Inside.{Inside, in_at, inside-at, inside-in, through}
 use Rattle.document_definitions.proofs.Parted.{Parted, lengths, room, get-old, get-new}
 use Rattle.document_definitions.proofs.Kept.{parted-in, parted-out}
 use Rattle.document_definitions.proofs.Halves.{get-some}

@@ -1,13 +1,13 @@
 -- Changes that leave every item where it is, and what is in it.
-use Rattle.std.proofs.Common.{◌≡◌, ℕ, zero, suc, ◌+◌, ◌-◌, ◌<◌, ◌≤◌, Bool, true, false, nat_lt, nat_le, ◌==◌, if◌then◌else◌, List, [], ◌∷◌, ◌++◌, map, length, Option, Some, None, option_and_then, slice_get, refl, sym, ap, ◌∙◌, subst, arith}
+use Rattle.std.proofs.Common.{◌≡◌, ℕ, zero, suc, ◌+◌, ◌-◌, ◌<◌, ◌≤◌, Bool, true, false, nat_lt, ◌==◌, if◌then◌else◌, List, [], ◌∷◌, ◌++◌, length, Option, Some, None, option_and_then, refl, sym, ap, ◌∙◌, subst, arith}
 use Rattle.std.specs.Option.{option_map_or}
 use Rattle.std.proofs.lemmas.Bool.Decides.{nat_tests}
 use Rattle.ck_base.specs.declared.value.Value.{Value as AttributeValue}
-use Rattle.item_definitions.specs.Item.{Item, Items, character, element, inner, with_attributes, attributes_of}
+use Rattle.item_definitions.specs.Item.{Item, character, element, inner, with_attributes, attributes_of}
 use Rattle.item_definitions.specs.Shift.{within, rest_behind}
 use Rattle.operation_definitions.specs.Level.{give, given, with_key, rename_at, one_item, renamed}
 use Rattle.document_definitions.proofs.Inside.{Inside, in_at}
-use Rattle.document_definitions.proofs.Parted.{Parted, replacing, lengths, room, get-before, get-behind, get-old, get-new}
+use Rattle.document_definitions.proofs.Parted.{Parted, replacing, lengths, get-before, get-behind, get-old, get-new}
 
 -- a position that no rule changes
 pub within-same_path : (parent position : List ℕ) → within parent (λ path. path) position ≡ position

@@ -1,14 +1,15 @@
 -- Documents that hold together.
-use Rattle.std.specs.Prelude.{◌≡◌, ℕ, ◌<◌, ◌≤◌, ◌^◌, List, ◌++◌, false, All, IsTrue, nat_eq}
+use Rattle.std.specs.Prelude.{◌≡◌, ℕ, ◌<◌, ◌≤◌, ◌^◌, List, ◌++◌, false, Some, All, IsTrue, nat_eq}
 use Rattle.std.specs.List.{flat_map, IsDistinct}
 use Rattle.ck_base.specs.Entries.{IsOrdered}
 use Rattle.item_definitions.specs.Item.{Item}
 use Rattle.item_definitions.specs.Children.{child_count}
 use Rattle.item_definitions.specs.Position.{IsRange}
-use Rattle.operation_definitions.specs.Reversed.{IsLimited, AreOrdered}
+use Rattle.operation_definitions.specs.Reversed.{IsLimited, HasPlaces}
 use Rattle.document_definitions.specs.Markers.{Markers}
 use Rattle.document_definitions.specs.Selection.{Selection, is_collapsed}
-use Rattle.document_definitions.specs.Document.{State, ids_of}
+use Rattle.operation_definitions.specs.Operation.{Operation, marker}
+use Rattle.document_definitions.specs.Document.{State, ids_of, brought}
 
 -- the ids of all elements in a tree and in the cells beside it
 abbrev pub ids_in : List Item → List (List Item) → List ℕ
@@ -16,14 +17,14 @@ ids_in items cells = ids_of items ++ flat_map ids_of cells
 
 -- the range of each marker is in the tree
 abbrev pub AreIn : List Item → Markers → Type 0
-AreIn items markers = All (λ marker. IsRange (child_count items) marker.1) markers
+AreIn items markers = All (λ entry. IsRange (child_count items) entry.1) markers
 
 -- the selection's range is in the tree, and one that is collapsed is forward
 abbrev pub IsSelection : List Item → Selection → Type 0
 IsSelection items selection = IsRange (child_count items) selection.range × (IsTrue (is_collapsed selection.range) → selection.backward ≡ false)
 
--- The ids are distinct, from 1 on and below the next one. All ranges are in the tree, names and keys are in order, and the tree keeps to
--- its limits.
+-- The ids are distinct, from 1 on and below the next one. All ranges are in the tree, names and overridden keys are in order, and the
+-- tree keeps to its limits.
 pub record IsSound (state : State) : Type 0 where
   pub distinct : IsDistinct nat_eq (ids_in state.document.items state.cells)
   pub drawn : All (λ id. (1 ≤ id) × (id < state.document.next_id)) (ids_in state.document.items state.cells)
@@ -32,5 +33,17 @@ pub record IsSound (state : State) : Type 0 where
   pub named : IsOrdered state.document.markers
   pub selection : IsSelection state.document.items state.document.selection
   pub keyed : IsOrdered state.document.selection.overrides
-  pub ordered : AreOrdered state.document.items
   pub limited : IsLimited state.document.items
+
+-- the new range of a marker is in the tree
+abbrev pub IsMarkerIn : List Item → Operation → Type 0
+IsMarkerIn items (marker name old (Some range)) = IsRange (child_count items) range
+IsMarkerIn items operation = Unit {0}
+
+-- What an operation may bring: ids that are new in the tree and the cells, distinct, and from 1 to 2^63 - 1; and a marker's range that is
+-- in the tree. A move names positions, which aren't empty.
+pub record IsFitting (operation : Operation) (state : State) : Type 0 where
+  pub places : HasPlaces operation
+  pub fresh : IsDistinct nat_eq (brought operation ++ ids_in state.document.items state.cells)
+  pub known : All (λ id. (1 ≤ id) × (id < 2 ^ 63)) (brought operation)
+  pub ranged : IsMarkerIn state.document.items operation

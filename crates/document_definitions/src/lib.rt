@@ -10,7 +10,8 @@ ghost use Rattle.item_definitions.specs.Shift.{IsWithinLimits, carry_range, carr
 ghost use Rattle.operation_definitions.specs.Operation.{Operation};
 ghost use Rattle.operation_definitions.specs.After.{after};
 ghost use Rattle.operation_definitions.specs.Reversed.{IsLimited, HasPlaces};
-ghost use Rattle.document_definitions.specs.Document.{shift_of};
+ghost use Rattle.document_definitions.specs.Document.{State, shift_of, applied};
+ghost use Rattle.document_definitions.specs.Sound.{IsSound, IsFitting};
 
 pub mod examples;
 
@@ -28,4 +29,9 @@ pub fn positions_keep_to_the_limits()
     ensures carried { (items : List Item) (cells : List (List Item)) (operation : Operation) (made : List Item × List (List Item)) (range : Range)
         → HasPlaces operation → after items cells operation ≡ Ok made → IsRange (child_count items) range
         → IsWithinLimits (carried_ends (shift_of operation) range).start × IsWithinLimits (carried_ends (shift_of operation) range).end }
+{}
+
+/// An operation that brings new ids alone keeps a sound document sound.
+pub fn operations_keep_soundness()
+    ensures { (operation : Operation) (state new : State) → IsSound state → IsFitting operation state → applied operation state ≡ Ok new → IsSound new }
 {}

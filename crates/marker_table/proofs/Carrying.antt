@@ -1,12 +1,8 @@
 -- A table of which the first markers were carried.
-use Rattle.std.proofs.Common.{◌≡◌, ℕ, zero, suc, ◌+◌, ◌<◌, ◌≤◌, length, arith, List, [], ◌∷◌, ◌&&◌, Some, IfSome, slice_get, All, refl, sym, ap, ◌∙◌, subst}
+use Rattle.std.proofs.Common.{◌≡◌, ℕ, zero, suc, ◌+◌, ◌<◌, ◌≤◌, length, arith, [], ◌∷◌, Some, IfSome, slice_get, All, refl, sym, ap, ◌∙◌, subst}
 use Rattle.std.specs.Map.{values_of}
 use Rattle.indexmap.specs.IndexMap.{set_value_at}
 use Rattle.std.proofs.lemmas.List.Elements.{All-tail}
-use Rattle.std.specs.Ordering.{is_lt}
-use Rattle.std.specs.FinMap.{is_sorted}
-use Rattle.std.specs.FinMap.Entries.{below_all}
-use Rattle.ck_base.specs.Entries.{name_cmp, IsOrdered}
 use Rattle.item_definitions.specs.Position.{Range}
 use Rattle.item_definitions.specs.Shift.{Shift, carry_range}
 use Rattle.document_definitions.specs.Markers.{Markers, carried}
@@ -54,20 +50,3 @@ one_more shift n markers new less made =
     let moved : new ≡ set_value_at (carried_up_to shift n markers) n (carry_range shift t.0) =
     subst (λ o. IfSome o (λ range. new ≡ set_value_at (carried_up_to shift n markers) n (carry_range shift range))) t.1 made in
     moved ∙ t.2
-
-pub as_many : (shift : Shift) (n : ℕ) (markers : Markers) → length (carried_up_to shift n markers) ≡ length markers
-as_many shift zero markers = refl
-as_many shift (suc n) [] = refl
-as_many shift (suc n) (marker ∷ markers) = ap suc (as_many shift n markers)
-
-below : (shift : Shift) (name : List ℕ) (markers : Markers) → below_all name_cmp name (carried shift markers) ≡ below_all name_cmp name markers
-below shift name [] = refl
-below shift name (marker ∷ markers) = ap (λ b. is_lt (name_cmp name marker.0) && b) (below shift name markers)
-
-still_ordered : (shift : Shift) (markers : Markers) → is_sorted name_cmp (carried shift markers) ≡ is_sorted name_cmp markers
-still_ordered shift [] = refl
-still_ordered shift (marker ∷ markers) = λ t. below shift marker.0 markers t && still_ordered shift markers t
-
--- the names stay in order
-pub ordered : (shift : Shift) (markers : Markers) → IsOrdered markers → IsOrdered (carried shift markers)
-ordered shift markers h = still_ordered shift markers ∙ h

@@ -56,7 +56,7 @@ pub fn take(table: &mut IndexMap<Name, Range>, name: &Name) -> Option<Range>
 }
 
 /// Takes each range to where it goes when the tree changes.
-#[tactic(auto, using(crate::proofs::Carrying::all_carried, crate::proofs::Carrying::still_carried, crate::proofs::Carrying::ordered))]
+#[tactic(auto, using(crate::proofs::Carrying::all_carried, crate::proofs::Carrying::still_carried, document_definitions::proofs::Soundness::carried_ordered))]
 pub fn carry(table: &mut IndexMap<Name, Range>, shift: &Shift)
     requires ordered { IsOrdered table.old.entries }
     requires shift { IsShift (shift_of shift.now) }
