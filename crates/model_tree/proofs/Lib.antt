@@ -1,0 +1,14 @@
+pub mod Counts
+pub mod Normal
+pub mod Ranges
+pub mod Steps
+pub mod AtPaths
+pub mod Found
+pub mod Puts
+pub mod Limited
+pub mod Shown
+pub mod Texts
+pub mod Keys
+pub mod Names
+pub mod Stays
+pub mod Room
