@@ -1,0 +1,10 @@
+mod Visit
+mod Partway
+mod Numbered
+mod Named
+mod Drawing
+mod Rows
+mod Finding
+mod KnownNames
+mod Ends
+mod Told

@@ -1,0 +1,9 @@
+pub mod Graph
+pub mod Numbering
+pub mod Steps
+pub mod Drawn
+pub mod Tables
+pub mod Refused
+pub mod Compiled
+pub mod Keys
+pub mod Flags
