@@ -8,3 +8,4 @@ pub mod Ranges
 pub mod Limits
 mod Ids
 pub mod Soundness
+pub mod Copies

@@ -4,7 +4,8 @@ use Rattle.std.specs.List.{flat_map, IsDistinct}
 use Rattle.ck_base.specs.Entries.{IsOrdered}
 use Rattle.item_definitions.specs.Item.{Item}
 use Rattle.item_definitions.specs.Children.{child_count}
-use Rattle.item_definitions.specs.Position.{IsRange}
+use Rattle.item_definitions.specs.Position.{Range, IsRange}
+use Rattle.item_definitions.specs.Shift.{Shift, IsWithinLimits, carried_ends}
 use Rattle.operation_definitions.specs.Reversed.{IsLimited, HasPlaces}
 use Rattle.document_definitions.specs.Markers.{Markers}
 use Rattle.document_definitions.specs.Selection.{Selection, is_collapsed}
@@ -47,3 +48,7 @@ pub record IsFitting (operation : Operation) (state : State) : Type 0 where
   pub fresh : IsDistinct nat_eq (brought operation ++ ids_in state.document.items state.cells)
   pub known : All (λ id. (1 ≤ id) × (id < 2 ^ 63)) (brought operation)
   pub ranged : IsMarkerIn state.document.items operation
+
+-- both ends of a range are carried to positions within the limits
+abbrev pub IsCarried : Shift → Range → Type 0
+IsCarried shift range = IsWithinLimits (carried_ends shift range).start × IsWithinLimits (carried_ends shift range).end

@@ -6,7 +6,7 @@ use Rattle.std.proofs.lemmas.List.Elements.{All-tail}
 use Rattle.item_definitions.specs.Position.{Range}
 use Rattle.item_definitions.specs.Shift.{Shift, carry_range}
 use Rattle.document_definitions.specs.Markers.{Markers, carried}
-use Rattle.marker_table.specs.Carried.{IsCarried}
+use Rattle.document_definitions.specs.Sound.{IsCarried}
 
 -- the first so many markers where they go, the others where they were
 abbrev pub carried_up_to : Shift → ℕ → Markers → Markers

@@ -4,7 +4,7 @@ ghost use Rattle.ck_base.specs.Entries.{IsOrdered, value_of, with_value, without
 ghost use Rattle.item_definitions.specs.Children.{offset_of};
 ghost use Rattle.item_definitions.specs.Position.{not_after, behind};
 ghost use Rattle.item_definitions.specs.Shift.{IsShift};
-ghost use Rattle.marker_table.specs.Carried.{IsCarried};
+ghost use Rattle.document_definitions.specs.Sound.{IsCarried};
 ghost use Rattle.std.specs.Map.{keys_of};
 ghost use Rattle.document_definitions.specs.Markers.{covering, carried};
 ghost use Rattle.model_pos.specs.Shifts.{shift_of};

@@ -6,7 +6,7 @@ ghost use Rattle.document_definitions.specs.Markers.{carried};
 ghost use Rattle.model_pos.specs.Shifts.{shift_of};
 ghost use Rattle.indexmap.specs.IndexMap.{set_value_at};
 ghost use Rattle.std.specs.Map.{values_of};
-ghost use Rattle.marker_table.specs.Carried.{IsCarried};
+ghost use Rattle.document_definitions.specs.Sound.{IsCarried};
 
 use ck_base::NoMemory;
 use ck_base::name::Name;
@@ -91,7 +91,7 @@ fn carry_one(range: &mut Range, shift: &Shift)
 }
 
 /// A copy of a table.
-#[tactic(auto, using(crate::proofs::Sorted::next_copied))]
+#[tactic(auto, using(document_definitions::proofs::Copies::next_copied))]
 pub fn copied(table: &IndexMap<Name, Range>) -> Result<IndexMap<Name, Range>, NoMemory>
     requires { IsOrdered table.now.entries }
     ensures { IfOk result (λ copy. copy.entries ≡ table.now.entries) }

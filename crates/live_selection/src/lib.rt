@@ -1,0 +1,10 @@
+//! The selection of a document. (After `DocumentSelection` of CKEditor 5's model.)
+#![tactic(auto)]
+
+pub mod overrides;
+pub mod selection;
+#[cfg(test)]
+mod tests;
+
+pub use overrides::Overrides;
+pub use selection::Selection;
