@@ -1,0 +1,5 @@
+pub mod Places
+pub mod Runs
+pub mod Planned
+pub mod Performed
+pub mod Sample
