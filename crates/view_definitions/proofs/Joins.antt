@@ -205,13 +205,13 @@ both_layers-none None = refl
 both_layers-none (Some a) = refl
 
 -- an element that is no attribute element is joined to none
-node-stays : (head : Head) (children : ViewNodes) (nodes : List ViewNode) → layer_of head ≡ None → join_node (element head children) nodes ≡ element head children ∷ nodes
+pub node-stays : (head : Head) (children : ViewNodes) (nodes : List ViewNode) → layer_of head ≡ None → join_node (element head children) nodes ≡ element head children ∷ nodes
 node-stays head children [] e = refl
 node-stays head children (text scalars ∷ nodes) e = refl
 node-stays head children (element other inner ∷ nodes) e = join_node-apart head other children inner nodes (ap (λ layer. both_layers layer (layer_of other)) e)
 
 -- and none is joined to it
-before-node : (head other : Head) (children inner : ViewNodes) (nodes : List ViewNode) → layer_of other ≡ None → join_node (element head children) (element other inner ∷ nodes) ≡ element head children ∷ element other inner ∷ nodes
+pub before-node : (head other : Head) (children inner : ViewNodes) (nodes : List ViewNode) → layer_of other ≡ None → join_node (element head children) (element other inner ∷ nodes) ≡ element head children ∷ element other inner ∷ nodes
 before-node head other children inner nodes e =
     join_node-apart head other children inner nodes (ap (both_layers (layer_of head)) e ∙ both_layers-none (layer_of head))
 

@@ -1,3 +1,4 @@
 pub mod Layers
 pub mod Rule
 pub mod Joins
+pub mod Changes

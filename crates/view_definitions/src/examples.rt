@@ -1,9 +1,10 @@
 //! The definitions computed at worked examples. The letters 97 to 100 are `a` to `d`.
-ghost use Rattle.std.specs.Prelude.{◌≡◌, ◌∷◌, [], ◌++◌, pos, negsuc, Some, None};
+ghost use Rattle.std.specs.Prelude.{◌≡◌, ◌∷◌, [], ◌++◌, true, false, pos, negsuc, Some, None};
 ghost use Rattle.std.specs.declared.cmp.Ordering.TheVariants.{Less, Equal, Greater};
 ghost use Rattle.view_definitions.specs.Node.{container, ui, text, content, depth_of};
 ghost use Rattle.view_definitions.specs.Layer.{Layer, layer_cmp, in_layer};
 ghost use Rattle.view_definitions.specs.Row.{nest, join};
+ghost use Rattle.view_definitions.specs.Change.{IsInOrder, has_layer, with_layer, without_layer, entry_with, entry_without, changed_range};
 ghost use Rattle.view_definitions.specs.Place.{node_at, list_at, changed, changes_of, numbers_of};
 ghost use Rattle.view_definitions.specs.Sample.{bold, italic, link, mark, letter, caret_in, a_leaf, an_object, bare_element, paragraph};
 
@@ -54,6 +55,23 @@ pub fn caret()
 pub fn joined()
     ensures { join (nest (letter 97 (link ∷ []) ∷ letter 98 (link ∷ bold ∷ []) ∷ [])) (nest (letter 99 (link ∷ bold ∷ []) ∷ letter 100 (link ∷ []) ∷ []))
         ≡ in_layer link (text (97 ∷ []) ∷ in_layer bold (text (98 ∷ 99 ∷ []) ∷ []) ∷ text (100 ∷ []) ∷ []) ∷ [] }
+{}
+
+/// A layer goes to its place in the order, once, and comes out again; a leaf gets none.
+pub fn changed_layers()
+    ensures between { with_layer italic (link ∷ bold ∷ mark 1 ∷ []) ≡ link ∷ bold ∷ italic ∷ mark 1 ∷ [] }
+    ensures outermost { with_layer link (bold ∷ italic ∷ []) ≡ link ∷ bold ∷ italic ∷ [] }
+    ensures once { with_layer bold (link ∷ bold ∷ []) ≡ link ∷ bold ∷ [] }
+    ensures other_id { with_layer (mark 2) (mark 1 ∷ []) ≡ mark 1 ∷ mark 2 ∷ [] }
+    ensures without { without_layer bold (link ∷ bold ∷ italic ∷ []) ≡ link ∷ italic ∷ [] }
+    ensures without_none { without_layer (mark 2) (link ∷ mark 1 ∷ []) ≡ link ∷ mark 1 ∷ [] }
+    ensures among { has_layer (mark 1) (link ∷ mark 1 ∷ []) ≡ true }
+    ensures not_among { has_layer (mark 2) (link ∷ mark 1 ∷ []) ≡ false }
+    ensures in_order { IsInOrder (link ∷ bold ∷ italic ∷ mark 1 ∷ mark 2 ∷ []) }
+    ensures range { changed_range (entry_with bold) 1 3 (letter 97 [] ∷ letter 98 [] ∷ a_leaf ∷ letter 99 [] ∷ [])
+        ≡ letter 97 [] ∷ letter 98 (bold ∷ []) ∷ a_leaf ∷ letter 99 [] ∷ [] }
+    ensures range_without { changed_range (entry_without bold) 0 1 (letter 97 (bold ∷ []) ∷ letter 98 (bold ∷ []) ∷ [])
+        ≡ letter 97 [] ∷ letter 98 (bold ∷ []) ∷ [] }
 {}
 
 /// Of the elements on the path, the innermost with a number counts a change.

@@ -2,12 +2,13 @@
 //! them. It has no program code: each function here is a law or a worked example, which its clauses state.
 #![tactic(auto)]
 
-ghost use Rattle.std.specs.Prelude.{◌≡◌, ◌++◌, [], List};
+ghost use Rattle.std.specs.Prelude.{◌≡◌, ◌++◌, ◌&&◌, ◌||◌, not, [], List};
 ghost use Rattle.std.specs.Cmp.{IsTotalOrder};
 ghost use Rattle.std.specs.declared.cmp.Ordering.TheVariants.{Equal};
 ghost use Rattle.view_definitions.specs.Node.{ViewNode};
-ghost use Rattle.view_definitions.specs.Layer.{Layer, layer_cmp};
+ghost use Rattle.view_definitions.specs.Layer.{Layer, layer_cmp, same_layer};
 ghost use Rattle.view_definitions.specs.Row.{Entry, IsPlainRow, nest, nest_by_rule, join};
+ghost use Rattle.view_definitions.specs.Change.{IsInOrder, has_layer, with_layer, without_layer};
 
 pub mod examples;
 
@@ -32,4 +33,15 @@ pub fn nest_of_rows_joined()
 pub fn join_is_associative()
     ensures steps { (nodes others last : List ViewNode) → join nodes (join others last) ≡ join (join nodes others) last }
     ensures none_behind { (nodes : List ViewNode) → join nodes [] ≡ nodes }
+{}
+
+/// One layer more keeps layers in their order, and is among them with those that were; one layer less keeps the order, and is not among
+/// those that stay.
+pub fn layers_change()
+    ensures with_in_order { (layer : Layer) (layers : List Layer) → IsInOrder layers → IsInOrder (with_layer layer layers) }
+    ensures with_one { (layer other : Layer) (layers : List Layer)
+        → has_layer other (with_layer layer layers) ≡ (same_layer other layer || has_layer other layers) }
+    ensures without_in_order { (layer : Layer) (layers : List Layer) → IsInOrder layers → IsInOrder (without_layer layer layers) }
+    ensures without_one { (layer other : Layer) (layers : List Layer)
+        → has_layer other (without_layer layer layers) ≡ (not (same_layer layer other) && has_layer other layers) }
 {}

@@ -1,5 +1,5 @@
 -- Changes of a node and of a view.
-use Rattle.std.specs.Prelude.{◌≡◌, ℕ, List, [], ◌∷◌, length, nat_le, if◌then◌else◌, Option, Some, None, option_map, option_and_then, slice_get, insert, remove}
+use Rattle.std.specs.Prelude.{◌≡◌, ℕ, ◌<◌, IsSomeAnd, List, [], ◌∷◌, length, nat_le, if◌then◌else◌, Option, Some, None, option_map, option_and_then, slice_get, insert, remove}
 use Rattle.view_definitions.specs.Node.{ViewNode, text, element, list_of, nodes_of}
 use Rattle.view_definitions.specs.Layer.{Layer, layer_of}
 use Rattle.view_definitions.specs.Place.{counting, list_at, changed}
@@ -32,6 +32,19 @@ inner_of (element head children) = list_of children
 pub record View : Type 0 where
   pub nodes : List ViewNode
   pub drawn : ℕ
+
+-- whether a view has drawn a number: it draws them from 0 on
+abbrev pub IsDrawn : View → ℕ → Type 0
+IsDrawn view number = number < view.drawn
+
+-- the number of a node: None where it is a text, or has none
+abbrev pub number_of : ViewNode → Option ℕ
+number_of (text scalars) = None
+number_of (element head children) = head.number
+
+-- whether a node has a number that a view had not drawn before, and has drawn now
+abbrev pub IsNewlyNumbered : View → View → ViewNode → Type 0
+IsNewlyNumbered before now node = IsSomeAnd (number_of node) (λ number. (IsDrawn before number → ⊥) × IsDrawn now number)
 
 -- a list with one node more at an index: None where the index is above its length
 abbrev pub inserted : ℕ → ViewNode → List ViewNode → Option (List ViewNode)

@@ -1,6 +1,6 @@
 //! The list of nodes at a path.
 ghost use Rattle.std.specs.Prelude.{◌≡◌, [], option_map, option_copied};
-ghost use Rattle.view_definitions.specs.Place.{node_at, list_at, put_at, numbered_on, counted, changes_in, changes_of};
+ghost use Rattle.view_definitions.specs.Place.{node_at, list_at, put_at, numbered_or, numbered_on, counted_in, counted, changes_in, changes_of};
 
 use crate::node::{Children, Detached, Node, ViewNumber};
 
@@ -45,6 +45,7 @@ pub fn put_list(nodes: &mut Children, path: &[u64], list: Children)
 
 /// Counts a change of the list at a path, at the nearest element on the path that has a number. It answers whether there is one. It takes
 /// no memory.
+#[cycle(counts)]
 pub fn count_change(nodes: &mut Children, path: &[u64]) -> bool
     ensures counted { result ≡ numbered_on path.now nodes.old.nodes }
     ensures nodes { nodes.new.nodes ≡ counted path.now nodes.old.nodes }
@@ -57,10 +58,20 @@ pub fn count_change(nodes: &mut Children, path: &[u64]) -> bool
         return false;
     }
     let node = &mut nodes.nodes[first];
+    count_inside(node, rest)
+}
+
+/// Counts a change of the list at a path in a node, at the nearest element with a number on it, or else at the node itself.
+#[cycle(counts)]
+#[tactic(auto, using(crate::proofs::Listed::listed))]
+fn count_inside(node: &mut Detached, path: &[u64]) -> bool
+    ensures counted { result ≡ numbered_or (numbered_on path.now) node.old }
+    ensures node { node.new ≡ counted_in (numbered_on path.now) (counted path.now) node.old }
+{
     let Node::Element(head, children) = &mut node.node else {
         return false;
     };
-    if count_change(children, rest) {
+    if count_change(children, path) {
         return true;
     }
     let has_number = head.number.is_some();

@@ -283,6 +283,14 @@ impl Detached {
         }
     }
 
+    /// The allocator that the node keeps.
+    pub fn allocator(&self) -> Global {
+        match &self.node {
+            Node::Text(_, alloc) => *alloc,
+            Node::Element(_, children) => children.allocator(),
+        }
+    }
+
     /// The text that the node is: None where it is an element.
     pub fn text(&self) -> Option<&ViewText>
         ensures { option_copied result ≡ node_text self.now }

@@ -3,7 +3,7 @@ ghost use Rattle.view_definitions.specs.Node.{ViewNode};
 ghost use Rattle.view_definitions.specs.Place.{node_at, list_at, changes_of};
 ghost use Rattle.view_tree.specs.Kinds.{is_element, node_of};
 ghost use Rattle.view_tree.specs.Reading.{ShowsSome};
-ghost use Rattle.view_tree.specs.Changes.{View, IsUnnumbered, numbered, placed, taken_out, emptied, filled};
+ghost use Rattle.view_tree.specs.Changes.{View, IsNewlyNumbered, IsUnnumbered, numbered, placed, taken_out, emptied, filled};
 
 use crate::kind::NodeKind;
 use crate::lists;
@@ -63,6 +63,7 @@ impl View {
         requires element { is_element kind ≡ true }
         requires numbers { self.old.drawn < 2 ^ 64 - 1 }
         ensures node { IfOk result (λ node. node ≡ node_of (Some self.old.drawn) kind) }
+        ensures fresh { IfOk result (λ node. IsNewlyNumbered self.old self.new node) }
         ensures drawn { OnOk result (self.new ≡ record self.old { drawn = self.old.drawn + 1 }) }
         ensures err { OnErr result (self.new ≡ self.old) }
     {
@@ -76,6 +77,7 @@ impl View {
         requires element { IsUnnumbered node.old }
         requires numbers { self.old.drawn < 2 ^ 64 - 1 }
         ensures node { node.new ≡ numbered self.old.drawn node.old }
+        ensures fresh { IsNewlyNumbered self.old self.new node.new }
         ensures drawn { self.new ≡ record self.old { drawn = self.old.drawn + 1 } }
     {
         let number = self.draw();

@@ -1,0 +1,7 @@
+pub mod Meeting
+pub mod Layering
+pub mod Wrapping
+pub mod Passes
+pub mod Cutting
+pub mod CutRows
+pub mod Ranges
