@@ -21,7 +21,7 @@ use Rattle.operation_definitions.proofs.Names.{same_numbers, numbers_same}
 use Rattle.operation_definitions.proofs.Keys.{with_key-again, with_key-value}
 use Rattle.operation_definitions.proofs.Simple.{State, taken_back, pair-first, pair-second}
 
-same_value-true : (a b : Option AttributeValue) → same_value a b ≡ true → a ≡ b
+pub same_value-true : (a b : Option AttributeValue) → same_value a b ≡ true → a ≡ b
 same_value-true None None e = refl
 same_value-true None (Some b) e = absurd cc
 same_value-true (Some (Whole n)) None e = absurd cc
@@ -43,7 +43,7 @@ same_value-true (Some (Text t)) (Some (Whole m)) e = absurd cc
 same_value-true (Some (Text t)) (Some (Truth b)) e = absurd cc
 same_value-true (Some (Text t)) (Some (Text u)) e = ap (λ k. Some (Text k)) (same_numbers t u e)
 
-same_value-own : (a : Option AttributeValue) → same_value a a ≡ true
+pub same_value-own : (a : Option AttributeValue) → same_value a a ≡ true
 same_value-own None = refl
 same_value-own (Some (Whole n)) = (signed_Decides n n).1 refl
 same_value-own (Some (Truth true)) = refl
