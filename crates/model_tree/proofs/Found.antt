@@ -30,12 +30,12 @@ one_element id name attributes children zero less = ap (λ kids. Some (record { 
 one_element id name attributes children (suc index) less = absurd (omega arith)
 
 module _ {X : Type 0} where
-  get-front : (front back : List X) (index : ℕ) → index < length front → slice_get (front ++ back) index ≡ slice_get front index
+  pub get-front : (front back : List X) (index : ℕ) → index < length front → slice_get (front ++ back) index ≡ slice_get front index
   get-front [] back index less = absurd (omega arith)
   get-front (x ∷ front) back zero less = refl
   get-front (x ∷ front) back (suc index) less = get-front front back index (omega arith)
 
-  get-back : (front back : List X) (index : ℕ) → length front ≤ index → slice_get (front ++ back) index ≡ slice_get back (index - length front)
+  pub get-back : (front back : List X) (index : ℕ) → length front ≤ index → slice_get (front ++ back) index ≡ slice_get back (index - length front)
   get-back [] back index most = (let same : index ≡ index - 0 = omega arith in ap (slice_get back) same)
   get-back (x ∷ front) back zero most = absurd (omega arith)
   get-back (x ∷ front) back (suc index) most = (let same : index - length front ≡ suc index - suc (length front) = omega arith in get-back front back index (omega arith) ∙ ap (slice_get back) same)

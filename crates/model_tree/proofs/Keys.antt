@@ -28,7 +28,7 @@ pub element_given : (key : List ℕ) (value : Option AttributeValue) (head made 
 element_given key value head made children same i n a c = λ t. element (i t) (n t) (a t) (items_of (c t)) ∷ []
 
 -- no node of a list in normal form is empty
-full_at : (nodes : List Node) (index : ℕ) (node : Node) → IsNormal nodes → index < length nodes → node ≡ get_or nodes index node → 0 < length (items_at node)
+pub full_at : (nodes : List Node) (index : ℕ) (node : Node) → IsNormal nodes → index < length nodes → node ≡ get_or nodes index node → 0 < length (items_at node)
 full_at [] index node h less is = absurd (omega arith)
 full_at (x ∷ nodes) zero node h less is = subst (λ n. 0 < length (items_at n)) (sym is) h.0
 full_at (x ∷ nodes) (suc index) node h less is = full_at nodes index node h.2 (omega arith) is

@@ -12,3 +12,10 @@ pub mod Keys
 pub mod Names
 pub mod Stays
 pub mod Room
+pub mod Halves
+pub mod Merges
+pub mod Targets
+pub mod Removed
+pub mod Moving
+pub mod Depths
+pub mod OneValue

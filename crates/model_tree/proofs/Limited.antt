@@ -102,6 +102,17 @@ first : {R : Type 0} → Option (List Item × R) → List Item
 first None = []
 first (Some made) = made.0
 
+-- the items that are taken out and those that stay are all
+pub take_out_counts : (path : List ℕ) (offset count : ℕ) (xs ys run : List Item) → at path (take_out offset count) xs ≡ Some (ys, run) → count_of ys + count_of run ≡ count_of xs
+take_out_counts path offset count xs ys run e =
+    let counts = at-counts (take_out offset count) count_of (λ _. 0) (λ xs ys r. replace-counts (λ run. Some ([], run)) count_of (λ _. 0) (λ run new r g. taken run new r g) offset count xs ys r) path xs ys run e in
+    omega (arith, counts)
+  where
+    taken : (run new r : List Item) → ◌≡◌ {A = Option (List Item × List Item)} (Some ([], run)) (Some (new, r)) → count_of new + count_of r ≡ count_of run + 0
+    taken run new r g =
+        let p : ◌≡◌ {A = List Item × List Item} ([], run) (new, r) = cc in
+        omega (arith, ap (λ (q : List Item × List Item). count_of q.0) p, ap (λ (q : List Item × List Item). count_of q.1) p)
+
 -- what stays when items are taken out
 pub take_out_stays : (path : List ℕ) (offset count : ℕ) (xs ys run : List Item) → at path (take_out offset count) xs ≡ Some (ys, run) → IsTree xs → IsTree ys
 take_out_stays path offset count xs ys run e h =

@@ -1,5 +1,5 @@
 -- Changes of one element.
-use Rattle.std.proofs.Common.{◌≡◌, ℕ, zero, suc, ◌+◌, ◌≤◌, Bool, true, false, nat_le, if◌then◌else◌, List, [], ◌∷◌, ◌++◌, length, take, drop, Option, Some, None, option_map, option_and_then, slice_get, refl, sym, ap, ◌∙◌, subst, arith, Result}
+use Rattle.std.proofs.Common.{◌≡◌, ℕ, zero, suc, ◌+◌, ◌≤◌, true, List, [], ◌∷◌, ◌++◌, length, take, drop, Option, Some, None, option_and_then, slice_get, refl, sym, ap, ◌∙◌, subst, arith, Result}
 use Rattle.std.specs.Prelude.{is_some}
 use Rattle.item_definitions.specs.Item.{Item, character, element, list_of, items_of}
 use Rattle.item_definitions.specs.Children.{parent_of, offset_of, children_at, at}
@@ -10,7 +10,7 @@ use Rattle.model_tree.specs.Places.{parts_of, put_run, Gives}
 use Rattle.model_tree.specs.Limits.{changed, renamed_at}
 use Rattle.model_tree.specs.declared.fault.TreeFault.{TreeFault}
 use Rattle.model_tree.proofs.AtPaths.{at-fails}
-use Rattle.model_tree.proofs.Puts.{nowhere, memory, changed_gives}
+use Rattle.model_tree.proofs.Puts.{nowhere, memory, changed_gives, run-fails}
 
 -- one item behind an index, as a list
 pub one-there : (xs : List Item) (index : ℕ) (item : Item) → slice_get xs index ≡ Some item → take 1 (drop index xs) ≡ item ∷ []
@@ -32,17 +32,11 @@ fits (x ∷ xs) (suc index) item e = omega (arith, fits xs index item e)
 -- a change that is for elements alone, where none stands
 pub no-one : {R : Type 0} (f : Item → Option (List Item × R)) → ((item : Item) → None ≡ parts_of item → f item ≡ None) → (xs : List Item) (index : ℕ) → None ≡ option_and_then parts_of (slice_get xs index)
     → replace index 1 (one_item f) xs ≡ None
-no-one {R = R} f not xs index e =
-    ap (λ o. if nat_le (index + 1) (length xs) then option_map (λ (made : List Item × R). (take index xs ++ (made.0 ++ drop (index + 1) xs), made.1)) o else None) (gone (slice_get xs index) refl e)
-    ∙ both (nat_le (index + 1) (length xs))
+no-one f not xs index e = run-fails (one_item f) index 1 xs (gone (slice_get xs index) refl e)
   where
     gone : (o : Option Item) → slice_get xs index ≡ o → None ≡ option_and_then parts_of o → one_item f (take 1 (drop index xs)) ≡ None
     gone None s e = ap (one_item f) (none-there xs index s)
     gone (Some item) s e = ap (one_item f) (one-there xs index item s) ∙ not item e
-
-    both : (t : Bool) → ◌≡◌ {A = Option (List Item × R)} (if t then None else None) None
-    both true = refl
-    both false = refl
 
 -- the element that was read
 pub record ThisOne (xs : List Item) (index : ℕ) (head : HeadParts) (children : List Item) : Type 0 where

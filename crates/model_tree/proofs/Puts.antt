@@ -1,5 +1,5 @@
 -- What changes of a run at a path give, by the items that stand in its place then.
-use Rattle.std.proofs.Common.{◌≡◌, ℕ, ◌+◌, ◌<◌, ◌≤◌, true, false, nat_le, if◌then◌else◌, List, [], ◌∷◌, ◌++◌, length, take, drop, Option, Some, None, option_map, refl, sym, ap, subst, ◌∙◌, arith, append-nil, Result, Err}
+use Rattle.std.proofs.Common.{Bool, ◌≡◌, ℕ, ◌+◌, ◌<◌, ◌≤◌, true, false, nat_le, if◌then◌else◌, List, [], ◌∷◌, ◌++◌, length, take, drop, Option, Some, None, option_map, refl, sym, ap, subst, ◌∙◌, arith, append-nil, Result, Err}
 use Rattle.std.specs.Prelude.{is_some}
 use Rattle.std.proofs.lemmas.Bool.Decides.{nat_tests}
 use Rattle.item_definitions.specs.Item.{Item}
@@ -105,3 +105,15 @@ changed_gives {R = R} f path offset count xs level new r result e h g =
     back : (o : Option (List Item)) → changed (option_map (λ ys. (ys, r)) o) ≡ o
     back None = refl
     back (Some ys) = refl
+
+-- what stands in place of a run, between what is before it and behind it
+abbrev in_place : {R : Type 0} → ℕ → ℕ → List Item → List Item × R → List Item × R
+in_place offset count level made = (take offset level ++ (made.0 ++ drop (offset + count) level), made.1)
+
+-- a change of a list whose run can't be changed
+pub run-fails : {R : Type 0} (f : Change R) (offset count : ℕ) (level : List Item) → f (take count (drop offset level)) ≡ None → replace offset count f level ≡ None
+run-fails {R = R} f offset count level e = go (nat_le (offset + count) (length level))
+  where
+    go : (t : Bool) → (if t then option_map (in_place offset count level) (f (take count (drop offset level))) else None) ≡ None
+    go true = ap (option_map (in_place offset count level)) e
+    go false = refl

@@ -14,3 +14,7 @@ some_characters attributes (scalar ∷ scalars) less = omega arith
 -- one list behind another
 pub behind : {X : Type 0} (a b first second : List X) → a ≡ [] ++ drop 0 first → b ≡ a ++ drop 0 second → b ≡ first ++ second
 behind a b first second e f = f ∙ ap (λ items. items ++ second) e
+
+-- what is behind an offset, put behind nothing
+pub all_behind : {X : Type 0} (made none items : List X) (offset : ℕ) → none ≡ [] → made ≡ none ++ drop offset items → made ≡ drop offset items
+all_behind made none items offset n e = e ∙ ap (λ front. front ++ drop offset items) n

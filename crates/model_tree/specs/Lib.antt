@@ -6,3 +6,4 @@ pub mod Kept
 pub mod Places
 pub mod Limits
 pub mod Reading
+pub mod OneValue

@@ -1,6 +1,6 @@
 -- Reading and changing the items of the element at a path.
-use Rattle.std.specs.Prelude.{◌≡◌, ℕ, List, Option, Some, None, option_map, is_some, true, Result, Ok, Err}
-use Rattle.item_definitions.specs.Item.{Item, character, element, list_of}
+use Rattle.std.specs.Prelude.{◌≡◌, ℕ, List, [], ◌∷◌, take, drop, Option, Some, None, option_map, is_some, true, Result, Ok, Err}
+use Rattle.item_definitions.specs.Item.{Item, character, element, list_of, items_of}
 use Rattle.item_definitions.specs.Children.{Change, at}
 use Rattle.operation_definitions.specs.Level.{replace}
 use Rattle.model_tree.specs.Parts.{HeadParts}
@@ -12,6 +12,14 @@ use Rattle.model_tree.specs.declared.fault.TreeFault.TheVariants.{NoPlace, NoMem
 abbrev pub parts_of : Item → Option (HeadParts × List Item)
 parts_of (character scalar attributes) = None
 parts_of (element id name attributes children) = Some (record { id = id; name = name; attributes = attributes }, list_of children)
+
+-- an element of a head and items
+abbrev pub element_of : HeadParts → List Item → Item
+element_of head children = element head.id head.name head.attributes (items_of children)
+
+-- two elements: one with the items before an offset, and one with those behind it
+abbrev pub halves : HeadParts → HeadParts → ℕ → List Item → List Item
+halves head shell offset children = element_of head (take offset children) ∷ element_of shell (drop offset children) ∷ []
 
 -- the same of an element that was read
 abbrev pub parts_in : Element → HeadParts × List Item

@@ -21,7 +21,7 @@ use std::rc::Rc;
 /// A text, or an element with the items in it.
 #[cycle(items)]
 #[derive(Debug, Drop)]
-pub(crate) enum Node {
+pub enum Node {
     Run(Text),
     Element(Head, Items),
 }
@@ -182,12 +182,12 @@ impl Items {
     }
 
     /// Its allocator.
-    pub(crate) fn allocator(&self) -> Global {
+    pub fn allocator(&self) -> Global {
         *self.nodes.allocator()
     }
 
     /// Its nodes.
-    pub(crate) fn nodes(&self) -> &Vec<Node>
+    pub fn nodes(&self) -> &Vec<Node>
         ensures items { items_in result.now.items ≡ self.now }
         ensures normal { IsNormal result.now.items }
     {
@@ -195,14 +195,14 @@ impl Items {
     }
 
     /// Whether there are `count` items behind an offset.
-    pub(crate) fn has_run(&self, offset: u32, count: u32) -> bool
+    pub fn has_run(&self, offset: u32, count: u32) -> bool
         ensures { IsTrue result ↔ (offset + count ≤ length self.now) }
     {
         offset as u64 + count as u64 <= self.sizes.long
     }
 
     /// The items with a value of a key, or without one; what is in them stays as it is.
-    pub(crate) fn given(&self, key: &Name, value: Option<&Value>) -> Result<Items, NoMemory>
+    pub fn given(&self, key: &Name, value: Option<&Value>) -> Result<Items, NoMemory>
         ensures { IfOk result (λ items. items ≡ given key.now (option_copied value.entry) self.now) }
     {
         let nodes = levels::given(self.nodes(), key, value)?;
@@ -210,11 +210,21 @@ impl Items {
     }
 
     /// The `count` items behind an offset, as far as they are there.
-    pub(crate) fn range(&self, offset: usize, count: usize) -> Result<Items, NoMemory>
+    pub fn range(&self, offset: usize, count: usize) -> Result<Items, NoMemory>
         ensures { IfOk result (λ items. items ≡ take count (drop offset self.now)) }
     {
         let mut nodes = Vec::new(self.allocator());
         levels::add_range(&mut nodes, &self.nodes, offset, count)?;
+        Items::from_nodes(nodes)
+    }
+
+    /// The items behind an offset.
+    #[tactic(auto, using(crate::proofs::Texts::all_behind))]
+    pub fn rest(&self, offset: usize) -> Result<Items, NoMemory>
+        ensures { IfOk result (λ items. items ≡ drop offset self.now) }
+    {
+        let mut nodes = Vec::new(self.allocator());
+        levels::add_rest(&mut nodes, &self.nodes, offset)?;
         Items::from_nodes(nodes)
     }
 
@@ -247,7 +257,7 @@ fn scalars_of(alloc: Global, text: &str) -> Result<Vec<char>, NoMemory>
 
 impl Node {
     /// How many items it stands for.
-    pub(crate) fn len(&self) -> usize
+    pub fn len(&self) -> usize
         ensures { result ≡ length (items_at self.now) }
     {
         match self {
@@ -257,7 +267,7 @@ impl Node {
     }
 
     /// The same node.
-    pub(crate) fn share(&self) -> Result<Node, NoMemory>
+    pub fn share(&self) -> Result<Node, NoMemory>
         ensures { IfOk result (λ node. node ≡ self.now) }
     {
         match self {

@@ -7,10 +7,11 @@ pub mod fault;
 pub mod id;
 pub mod items;
 mod levels;
+mod moves;
 mod paths;
 pub mod reading;
 mod sizes;
 #[cfg(test)]
 mod tests;
-mod text;
+pub mod text;
 pub mod tree;

@@ -3,7 +3,7 @@ ghost use Rattle.std.specs.Prelude.{◌≡◌, ◌<◌, ◌≤◌, ◌+◌, ◌^
 ghost use Rattle.item_definitions.specs.Item.{element, items_of};
 ghost use Rattle.item_definitions.specs.Children.{children_at};
 ghost use Rattle.model_tree.specs.Nodes.{items_at, items_in};
-ghost use Rattle.model_tree.specs.Places.{parts_of, parts_in, put_run, Gives};
+ghost use Rattle.model_tree.specs.Places.{element_of, halves, parts_of, parts_in, put_run, Gives};
 
 use crate::fault::TreeFault;
 use crate::items::{Items, Node};
@@ -28,11 +28,44 @@ impl Element<'_> {
         let children = self.children.copy()?;
         Items::of_node(self.children.allocator(), Node::Element(head, children))
     }
+
+    /// Two elements: this one with its items before an offset, and one of another head with those behind it.
+    #[tactic(auto, using(crate::proofs::Halves::two_halves))]
+    pub(crate) fn split(self, offset: u32, shell: &Head) -> Result<Items, NoMemory>
+        ensures { IfOk result (λ items. items ≡ halves self.entry.head.now shell.now offset self.entry.children.now) }
+    {
+        let front = self.children.range(0, offset as usize)?;
+        let back = self.children.rest(offset as usize)?;
+        let alloc = self.children.allocator();
+        let second = Items::of_node(alloc, Node::Element(shell.share()?, back))?;
+        let first = Items::of_node(alloc, Node::Element(self.head.share()?, front))?;
+        first.followed_by(&second)
+    }
+
+    /// This element with the items of another one behind its own, alone in a list.
+    #[tactic(auto, using(crate::proofs::Merges::one_of_two))]
+    pub(crate) fn joined(self, other: Element<'_>) -> Result<Items, NoMemory>
+        ensures { IfOk result (λ items. items ≡ element_of self.entry.head.now (self.entry.children.now ++ other.entry.children.now) ∷ []) }
+    {
+        let children = self.children.followed_by(other.children)?;
+        let head = self.head.share()?;
+        Items::of_node(self.children.allocator(), Node::Element(head, children))
+    }
+
+    /// This element without its items, alone in a list.
+    pub(crate) fn emptied(self) -> Result<Items, NoMemory>
+        ensures { IfOk result (λ items. items ≡ element_of self.entry.head.now [] ∷ []) }
+    {
+        let alloc = self.children.allocator();
+        let head = self.head.share()?;
+        let none = Items::new(alloc)?;
+        Items::of_node(alloc, Node::Element(head, none))
+    }
 }
 
 /// The element that a node is: None for a text.
 #[tactic(auto, using(crate::proofs::Found::no_element, crate::proofs::Found::one_element))]
-fn element_of(node: &Node) -> Option<Element<'_>>
+fn element_in_node(node: &Node) -> Option<Element<'_>>
     ensures { (index : ℕ) → index < length (items_at node.now) → option_map parts_in result ≡ option_and_then parts_of (slice_get (items_at node.now) index) }
 {
     match node {
@@ -50,7 +83,7 @@ fn element_in(nodes: &Vec<Node>, offset: usize) -> Option<Element<'_>>
     for node in nodes {
         let long = node.len();
         if rest < long {
-            return element_of(node);
+            return element_in_node(node);
         }
         rest -= long;
     }
@@ -67,7 +100,7 @@ impl Items {
 
     /// The items of the element at a path: None exactly where no element stands there.
     #[tactic(auto, using(crate::proofs::Found::nowhere, crate::proofs::Found::lower))]
-    pub(crate) fn list_at(&self, path: &[u32]) -> Option<&Items>
+    pub fn list_at(&self, path: &[u32]) -> Option<&Items>
         ensures { option_copied result ≡ children_at path.now self.now }
     {
         let Some((first, rest)) = path.split_first() else {

@@ -1,13 +1,17 @@
 //! Reading an item.
-ghost use Rattle.std.specs.Prelude.{◌≡◌, ◌<◌, ◌^◌, length, Some, slice_get, option_map};
-ghost use Rattle.item_definitions.specs.Item.{count_of};
-ghost use Rattle.model_tree.specs.Nodes.{items_at, items_in};
+ghost use Rattle.std.specs.Prelude.{◌≡◌, ◌<◌, ◌^◌, length, Some, slice_get, option_map, option_copied};
+ghost use Rattle.ck_base.specs.Entries.{value_of};
+ghost use Rattle.operation_definitions.specs.After.{same_value, first_other};
+ghost use Rattle.model_tree.specs.OneValue.{HaveOne};
+ghost use Rattle.item_definitions.specs.Item.{attributes_of, count_of};
+ghost use Rattle.model_tree.specs.Nodes.{items_at, items_in, IsNormal};
 ghost use Rattle.model_tree.specs.Reading.{shown_in, shown_of};
 
 use crate::id::ElementId;
 use crate::items::{Items, Node};
 use ck_base::attributes::Attrs;
 use ck_base::name::Name;
+use ck_base::value::Value;
 
 /// What an item is.
 #[derive(Clone, Copy, Debug)]
@@ -72,4 +76,53 @@ impl Items {
     {
         shown_at(self.nodes(), offset as usize)
     }
+
+    /// The value of a key that the first item has whose value is another one than the given one: None exactly where each has that value.
+    /// It takes no memory.
+    pub fn other_value(&self, key: &Name, value: Option<&Value>) -> Option<Option<&Value>>
+        ensures { option_map option_copied result ≡ option_map (λ item. value_of key.now (attributes_of item)) (first_other key.now (option_copied value.entry) self.now) }
+    {
+        other_value(self.nodes(), key, value)
+    }
+}
+
+/// Whether two values are one.
+#[tactic(auto, using(crate::proofs::OneValue::one_value))]
+fn same(value: Option<&Value>, other: Option<&Value>) -> bool
+    ensures { result ≡ same_value (option_copied value.entry) (option_copied other.entry) }
+{
+    match (value, other) {
+        (None, None) => true,
+        (Some(value), Some(other)) => value.same(other),
+        _ => false,
+    }
+}
+
+/// The value of a key that all items of a node have.
+#[tactic(auto, using(crate::proofs::OneValue::text_value, crate::proofs::OneValue::element_value))]
+fn value_in<'a>(node: &'a Node, key: &Name) -> Option<&'a Value>
+    ensures { HaveOne key.now (option_copied result) (items_at node.now) }
+{
+    match node {
+        Node::Run(text) => text.attrs().get(key),
+        Node::Element(head, _) => head.attrs().get(key),
+    }
+}
+
+/// The value of a key that the first item has whose value is another one than the given one.
+fn other_value<'a>(
+    nodes: &'a Vec<Node>,
+    key: &Name,
+    value: Option<&Value>,
+) -> Option<Option<&'a Value>>
+    requires { IsNormal nodes.now.items }
+    ensures { option_map option_copied result ≡ option_map (λ item. value_of key.now (attributes_of item)) (first_other key.now (option_copied value.entry) (items_in nodes.now.items)) }
+{
+    for node in nodes {
+        let found = value_in(node, key);
+        if !same(found, value) {
+            return Some(found);
+        }
+    }
+    None
 }

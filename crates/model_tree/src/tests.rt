@@ -1,3 +1,6 @@
+ghost use Rattle.std.specs.Prelude.{IfOk, IsSome};
+ghost use Rattle.operation_definitions.specs.After.{shell_of};
+
 use crate::fault::TreeFault;
 use crate::id::ElementId;
 use crate::items::Items;
@@ -62,6 +65,45 @@ fn put(
         Ok(()) => Ok(()),
         Err(_) => Err(Fail::new("no place")),
     }
+}
+
+/// An element without children, with the id 2.
+fn shell(alloc: Global) -> Result<Items, Fail>
+    ensures { IfOk result (λ shell. IsSome (shell_of shell)) }
+{
+    let p = name(alloc, "paragraph")?;
+    let none = Items::new(alloc)?;
+    Ok(Items::element(alloc, ElementId::new(2), p, Attrs::new(alloc), none)?)
+}
+
+/// Splits the element at a path.
+#[tactic(auto, using(crate::proofs::Halves::split_few))]
+fn split(tree: &mut Tree, alloc: Global, at: &[u32], offset: u32) -> Result<(), Fail> {
+    let at = path(alloc, at)?;
+    let shell = shell(alloc)?;
+    if tree.item_count() > 100 {
+        return Err(Fail::new("too many"));
+    }
+    match tree.split_element(&at, offset, shell) {
+        Ok(()) => Ok(()),
+        Err(_) => Err(Fail::new("no place")),
+    }
+}
+
+/// Moves a run.
+#[tactic(auto, using(crate::proofs::Depths::move_flat))]
+fn shift(
+    tree: &mut Tree,
+    from: &Path,
+    offset: u32,
+    count: u32,
+    to: &Path,
+    to_offset: u32,
+) -> Result<(), TreeFault> {
+    if tree.depth() > 3 || to.len() > 3 {
+        return Err(TreeFault::NoMemory);
+    }
+    tree.move_run(from, offset, count, to, to_offset)
 }
 
 /// The character at a path.
@@ -144,5 +186,29 @@ fn places_that_are_not_there(rt: HostRuntime) -> Result<(), Fail> {
             .is_err_and(|fault| fault == TreeFault::NoPlace)
     );
     assert_eq!(rt; id_at(&tree, &p), Some(1));
+    Ok(())
+}
+
+/// An element is split, a run moves from one half to the other, and the halves are merged.
+#[test]
+fn halves(rt: HostRuntime) -> Result<(), Fail> {
+    let alloc = rt.alloc();
+    let mut tree = sample(alloc)?;
+    split(&mut tree, alloc, &[0], 1)?;
+    let (first, second) = (path(alloc, &[0])?, path(alloc, &[1])?);
+    assert_eq!(rt;
+        (id_at(&tree, &first), id_at(&tree, &second)),
+        (Some(1), Some(2))
+    );
+    assert_eq!(rt; scalar_at(&tree, &path(alloc, &[1, 0])?), Some('b'));
+    assert!(rt; shift(&mut tree, &first, 0, 1, &second, 1).is_ok());
+    assert_eq!(rt; scalar_at(&tree, &path(alloc, &[1, 1])?), Some('a'));
+    assert!(rt;
+        tree.merge_elements(&first)
+            .is_err_and(|fault| fault == TreeFault::NoPlace)
+    );
+    let emptied = tree.merge_elements(&second);
+    assert!(rt; emptied.is_ok_and(|emptied| emptied.count() == 1));
+    assert_eq!(rt; tree.child_count(&first), Some(2));
     Ok(())
 }

@@ -1,10 +1,11 @@
 //! The document tree.
-ghost use Rattle.std.specs.Prelude.{◌≡◌, ◌↔◌, ◌+◌, ◌<◌, ◌≤◌, ℕ, length, IsTrue, ◌-◌, ◌^◌, min, [], None, Some, OnOk, OnErr, IfOk, IfErr, IsErrOf, option_map, option_copied};
+ghost use Rattle.std.specs.Prelude.{◌≡◌, ◌↔◌, ◌+◌, ◌<◌, ◌≤◌, ℕ, length, IsTrue, ◌-◌, ◌^◌, min, [], ◌∷◌, ◌++◌, None, Some, OnOk, OnErr, IfOk, IfErr, IfSome, IsSome, IsErrOf, option_map, option_copied};
 ghost use Rattle.item_definitions.specs.Item.{count_of, depth_of};
 ghost use Rattle.item_definitions.specs.Children.{at, child_count, item_at};
 ghost use Rattle.operation_definitions.specs.Level.{put_in, take_out, give};
+ghost use Rattle.operation_definitions.specs.After.{shell_of};
 ghost use Rattle.model_tree.specs.Reading.{shown_in, shown_of};
-ghost use Rattle.model_tree.specs.Limits.{StaysTree, changed, renamed_at};
+ghost use Rattle.model_tree.specs.Limits.{IsTree, StaysTree, changed, merged, moved, renamed_at, split_with};
 
 use crate::fault::{NotPlaced, TreeFault};
 use crate::items::Items;
@@ -53,6 +54,22 @@ impl Tree {
     {
         let root = self.root.copy()?;
         Ok(Tree { root })
+    }
+
+    /// The tree of these items.
+    pub fn from_items(items: Items) -> Tree
+        requires { IsTree items }
+        ensures { result ≡ items }
+    {
+        Tree { root: items }
+    }
+
+    /// Its items.
+    pub fn items(&self) -> &Items
+        ensures items { result.now ≡ self.now }
+        ensures limits { IsTree self.now }
+    {
+        &self.root
     }
 
     /// How many items there are, at all depths.
@@ -178,6 +195,77 @@ impl Tree {
         ensures err { OnErr result (self.new ≡ self.old) }
     {
         match self.root.renamed_at(path.as_slice(), &name) {
+            Ok(root) => {
+                self.root = root;
+                Ok(())
+            }
+            Err(fault) => Err(fault),
+        }
+    }
+
+    /// Splits the element at a path: what stands behind the offset in it goes into the shell, one element without children, which then
+    /// stands directly behind it. It answers `NoPlace` exactly where no element stands at the path, the path is empty, or the offset is
+    /// above the number of its items, and `NoMemory`. After both the tree is unchanged, and the shell is handed back.
+    #[tactic(auto, using(crate::proofs::Halves::split_stays))]
+    pub fn split_element(&mut self, path: &Path, offset: u32, shell: Items) -> Result<(), NotPlaced>
+        requires one { IsSome (shell_of shell) }
+        requires few { IfSome (changed (split_with path.now offset shell self.old)) (λ made. count_of made < 2 ^ 32) }
+        ensures ok { OnOk result (changed (split_with path.now offset shell self.old) ≡ Some self.new) }
+        ensures no_place { IfErr result (λ refused. refused.fault ≡ TreeFault.NoPlace ↔ split_with path.now offset shell self.old ≡ None) }
+        ensures handed_back { IfErr result (λ refused. refused.items ≡ shell) }
+        ensures err { OnErr result (self.new ≡ self.old) }
+    {
+        match self.root.split_with(path.as_slice(), offset, &shell) {
+            Ok(root) => {
+                self.root = root;
+                Ok(())
+            }
+            Err(fault) => Err(NotPlaced {
+                fault,
+                items: shell,
+            }),
+        }
+    }
+
+    /// Puts the children of the element at a path behind those of the element directly before it, and takes the emptied element out. It
+    /// answers `NoPlace` exactly where no element stands at the path, or none directly before it, and `NoMemory`. After both the tree is
+    /// unchanged.
+    #[tactic(auto, using(crate::proofs::Merges::merge_stays))]
+    pub fn merge_elements(&mut self, right: &Path) -> Result<Items, TreeFault>
+        ensures ok { IfOk result (λ emptied. merged right.now self.old ≡ Some (self.new, emptied)) }
+        ensures no_place { IsErrOf result TreeFault.NoPlace ↔ (merged right.now self.old ≡ None) }
+        ensures err { OnErr result (self.new ≡ self.old) }
+    {
+        match self.root.merged_at(right.as_slice()) {
+            Ok((root, emptied)) => {
+                self.root = root;
+                Ok(emptied)
+            }
+            Err(fault) => Err(fault),
+        }
+    }
+
+    /// Moves `count` items behind an offset in the element at a path to an offset in the element at another path. Both places are read
+    /// before the move; the empty path stands for the root. A target in the run or at its ends leaves all where it is. It answers
+    /// `NoPlace` exactly where the run or the target isn't there, and `NoMemory`. After both the tree is unchanged.
+    #[tactic(auto, using(crate::proofs::Moving::move_stays))]
+    pub fn move_run(
+        &mut self,
+        parent: &Path,
+        offset: u32,
+        count: u32,
+        to: &Path,
+        to_offset: u32,
+    ) -> Result<(), TreeFault>
+        requires { IfSome (moved (parent.now ++ offset ∷ []) count (to.now ++ to_offset ∷ []) self.old) (λ made. depth_of made ≤ 64) }
+        ensures ok { OnOk result (moved (parent.now ++ offset ∷ []) count (to.now ++ to_offset ∷ []) self.old ≡ Some self.new) }
+        ensures no_place { IsErrOf result TreeFault.NoPlace ↔ (moved (parent.now ++ offset ∷ []) count (to.now ++ to_offset ∷ []) self.old ≡ None) }
+        ensures err { OnErr result (self.new ≡ self.old) }
+    {
+        match self
+            .root
+            .moved(parent.as_slice(), offset, count, to.as_slice(), to_offset)
+        {
             Ok(root) => {
                 self.root = root;
                 Ok(())
