@@ -14,4 +14,5 @@ mod tests;
 pub use carried::{carry, carry_range};
 pub use parts::{Counts, flat_parts};
 pub use places::{Position, Range, is_flat, order};
+pub use runs::is_in_run;
 pub use shifts::{Shift, Stick};

@@ -1,5 +1,5 @@
 //! Positions and ranges in a run of items that is moved.
-ghost use Rattle.std.specs.Prelude.{◌≡◌, ◌<◌, ◌≤◌, ◌+◌, ◌∷◌, []};
+ghost use Rattle.std.specs.Prelude.{◌≡◌, ◌&&◌, ◌<◌, ◌≤◌, ◌+◌, ◌∷◌, []};
 ghost use Rattle.item_definitions.specs.Position.{not_after, is_before};
 ghost use Rattle.item_definitions.specs.Shift as meant;
 ghost use Rattle.item_definitions.specs.Shift.{IsWithinLimits, forward};
@@ -69,4 +69,11 @@ pub fn with_run(position: &Position, from: &Position, to: &Position) -> Position
     };
     let (target, first) = to.split();
     position.with_numbers(target, &[first + number.saturating_sub(offset)], path)
+}
+
+/// Whether a position is in the run of `count` items behind another one, or at an end of the run. It takes no memory.
+pub fn is_in_run(from: &Position, count: u32, position: &Position) -> bool
+    ensures { result ≡ (not_after from.now position.now && not_after position.now (forward count from.now)) }
+{
+    order(from, position).is_le() && ends_in_run(position, from, count)
 }
