@@ -1,0 +1,10 @@
+//! The operations by which a document changes, what they do to the tree and the cells, and their reversals. (After the operations of
+//! CKEditor 5's model; its graveyard is here a list of numbered cells.)
+#![tactic(auto)]
+
+pub mod cells;
+pub mod counts;
+pub mod operation;
+pub mod reversal;
+#[cfg(test)]
+mod tests;
