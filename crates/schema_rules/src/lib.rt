@@ -14,3 +14,5 @@ mod refusals;
 pub mod schema;
 mod steps;
 mod tables;
+#[cfg(test)]
+mod tests;

@@ -1,0 +1,47 @@
+use Rattle.std.proofs.Common.{refl}
+use Rattle.std.specs.Str.{chars, is_utf8}
+use Rattle.std.specs.Fmt.{digits}
+use Rattle.serde_json.proofs.OnLiterals.{serde_json_on_literals}
+use Rattle.ck_base.specs.Name.{is_name}
+use Rattle.json_forms.specs.Form.{json_of, object_at, only_fields}
+use Rattle.json_names.specs.Names.{name_at, name_field, names_at, name_list_field, one_or_more, names_field, optional_name, truth_field, optional_truth, count_field, optional_count}
+use Rattle.schema_definitions.specs.Compiled.{predefined, first_unknown, first_bad_check}
+use Rattle.settings_definitions.specs.SchemaForm.{subject_at, list_name, flag_name, list_at, flag_at, places_at, sources_at, flags_at, entry_of, only_entry_fields, entry_at, entries_at, child_check_at, attribute_check_at, check_at, checks_at}
+use Rattle.settings_definitions.specs.Settings.{entries_field, checks_field, form_at, form_of, refusal_of, settings_of}
+use Rattle.settings_definitions.proofs.examples.broken_forms.Goals as goal
+
+pub returns-clause-empty : goal.returns-clause-empty
+unfolding serde_json_on_literals chars is_utf8 digits is_name json_of object_at only_fields name_at name_field names_at name_list_field one_or_more names_field optional_name truth_field optional_truth count_field optional_count predefined first_unknown first_bad_check subject_at list_name flag_name list_at flag_at places_at sources_at flags_at entry_of only_entry_fields entry_at entries_at child_check_at attribute_check_at check_at checks_at entries_field checks_field form_at form_of refusal_of settings_of
+returns-clause-empty c = refl
+
+pub returns-clause-other_version : goal.returns-clause-other_version
+unfolding serde_json_on_literals chars is_utf8 digits is_name json_of object_at only_fields name_at name_field names_at name_list_field one_or_more names_field optional_name truth_field optional_truth count_field optional_count predefined first_unknown first_bad_check subject_at list_name flag_name list_at flag_at places_at sources_at flags_at entry_of only_entry_fields entry_at entries_at child_check_at attribute_check_at check_at checks_at entries_field checks_field form_at form_of refusal_of settings_of
+returns-clause-other_version c = refl
+
+pub returns-clause-no_rounds : goal.returns-clause-no_rounds
+unfolding serde_json_on_literals chars is_utf8 digits is_name json_of object_at only_fields name_at name_field names_at name_list_field one_or_more names_field optional_name truth_field optional_truth count_field optional_count predefined first_unknown first_bad_check subject_at list_name flag_name list_at flag_at places_at sources_at flags_at entry_of only_entry_fields entry_at entries_at child_check_at attribute_check_at check_at checks_at entries_field checks_field form_at form_of refusal_of settings_of
+returns-clause-no_rounds c = refl
+
+pub returns-clause-no_schema : goal.returns-clause-no_schema
+unfolding serde_json_on_literals chars is_utf8 digits is_name json_of object_at only_fields name_at name_field names_at name_list_field one_or_more names_field optional_name truth_field optional_truth count_field optional_count predefined first_unknown first_bad_check subject_at list_name flag_name list_at flag_at places_at sources_at flags_at entry_of only_entry_fields entry_at entries_at child_check_at attribute_check_at check_at checks_at entries_field checks_field form_at form_of refusal_of settings_of
+returns-clause-no_schema c = refl
+
+pub returns-clause-both : goal.returns-clause-both
+unfolding serde_json_on_literals chars is_utf8 digits is_name json_of object_at only_fields name_at name_field names_at name_list_field one_or_more names_field optional_name truth_field optional_truth count_field optional_count predefined first_unknown first_bad_check subject_at list_name flag_name list_at flag_at places_at sources_at flags_at entry_of only_entry_fields entry_at entries_at child_check_at attribute_check_at check_at checks_at entries_field checks_field form_at form_of refusal_of settings_of
+returns-clause-both c = refl
+
+pub returns-clause-in_a_list : goal.returns-clause-in_a_list
+unfolding serde_json_on_literals chars is_utf8 digits is_name json_of object_at only_fields name_at name_field names_at name_list_field one_or_more names_field optional_name truth_field optional_truth count_field optional_count predefined first_unknown first_bad_check subject_at list_name flag_name list_at flag_at places_at sources_at flags_at entry_of only_entry_fields entry_at entries_at child_check_at attribute_check_at check_at checks_at entries_field checks_field form_at form_of refusal_of settings_of
+returns-clause-in_a_list c = refl
+
+pub returns-clause-other_field : goal.returns-clause-other_field
+unfolding serde_json_on_literals chars is_utf8 digits is_name json_of object_at only_fields name_at name_field names_at name_list_field one_or_more names_field optional_name truth_field optional_truth count_field optional_count predefined first_unknown first_bad_check subject_at list_name flag_name list_at flag_at places_at sources_at flags_at entry_of only_entry_fields entry_at entries_at child_check_at attribute_check_at check_at checks_at entries_field checks_field form_at form_of refusal_of settings_of
+returns-clause-other_field c = refl
+
+pub returns-clause-both_kinds : goal.returns-clause-both_kinds
+unfolding serde_json_on_literals chars is_utf8 digits is_name json_of object_at only_fields name_at name_field names_at name_list_field one_or_more names_field optional_name truth_field optional_truth count_field optional_count predefined first_unknown first_bad_check subject_at list_name flag_name list_at flag_at places_at sources_at flags_at entry_of only_entry_fields entry_at entries_at child_check_at attribute_check_at check_at checks_at entries_field checks_field form_at form_of refusal_of settings_of
+returns-clause-both_kinds c = refl
+
+pub returns-clause-null_checks : goal.returns-clause-null_checks
+unfolding serde_json_on_literals chars is_utf8 digits is_name json_of object_at only_fields name_at name_field names_at name_list_field one_or_more names_field optional_name truth_field optional_truth count_field optional_count predefined first_unknown first_bad_check subject_at list_name flag_name list_at flag_at places_at sources_at flags_at entry_of only_entry_fields entry_at entries_at child_check_at attribute_check_at check_at checks_at entries_field checks_field form_at form_of refusal_of settings_of
+returns-clause-null_checks c = refl

@@ -1,0 +1,7 @@
+//! What a settings file says: its grammar, with the first place that breaks it, and why settings are refused. It has no program code, but
+//! where a type is made and where a worked example is computed.
+#![tactic(auto)]
+
+mod examples;
+pub mod fault;
+pub mod parts;
