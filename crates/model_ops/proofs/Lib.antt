@@ -1,1 +1,4 @@
 pub mod Behind
+pub mod InCells
+pub mod Planned
+pub mod Given

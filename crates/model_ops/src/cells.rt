@@ -1,5 +1,5 @@
 //! The cells in which items that were taken out are kept.
-ghost use Rattle.std.specs.Prelude.{◌≡◌, ◌<◌, ◌≤◌, [], ◌∷◌, length, set, IfOk, OnOk, OnErr, IfSome, IsNone, ◌↔◌};
+ghost use Rattle.std.specs.Prelude.{◌≡◌, ◌<◌, ◌≤◌, [], ◌∷◌, length, set, IfOk, OnOk, OnErr, slice_get, option_copied};
 ghost use Rattle.operation_definitions.specs.After.{in_cell_at, is_free, fill, holds_count};
 
 use ck_base::NoMemory;
@@ -41,6 +41,51 @@ impl Cells {
         ensures { result ≡ length self.now }
     {
         self.cells.len() as u64
+    }
+
+    /// What is in a cell: None exactly where there is no such cell. It takes no memory.
+    pub fn get(&self, number: u64) -> Option<&Items>
+        ensures { option_copied result ≡ slice_get self.now number }
+    {
+        self.cells.get(number as usize)
+    }
+
+    /// Whether a cell is empty, or is the next new one. It takes no memory.
+    #[tactic(auto, using(crate::proofs::InCells::free_there, crate::proofs::InCells::free_none))]
+    pub fn is_free(&self, number: u64) -> bool
+        ensures { result ≡ is_free self.now number }
+    {
+        match self.get(number) {
+            Some(items) => items.len() == 0,
+            None => number == self.len(),
+        }
+    }
+
+    /// Whether a cell is there and holds so many items. It takes no memory.
+    #[tactic(auto, using(crate::proofs::InCells::holds_there, crate::proofs::InCells::holds_none))]
+    pub fn holds_count(&self, number: u64, count: u32) -> bool
+        ensures { result ≡ holds_count self.now number count }
+    {
+        match self.get(number) {
+            Some(items) => items.len() == count as u64,
+            None => false,
+        }
+    }
+
+    /// Fills a cell, which may be the next new one. It answers `NoMemory` alone beside Ok, and then nothing has changed.
+    #[tactic(auto, using(crate::proofs::InCells::fill_there, crate::proofs::InCells::fill_next))]
+    pub(crate) fn fill(&mut self, number: u64, items: Items) -> Result<(), NoMemory>
+        requires { number ≤ length self.old }
+        ensures ok { OnOk result (self.new ≡ fill self.old number items) }
+        ensures err { OnErr result (self.new ≡ self.old) }
+    {
+        let index = number as usize;
+        if index < self.cells.len() {
+            self.cells[index] = items;
+        } else {
+            self.cells.push(items)?;
+        }
+        Ok(())
     }
 
     /// The same cells. It answers `NoMemory` alone beside Ok.

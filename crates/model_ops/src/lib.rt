@@ -4,7 +4,9 @@
 
 pub mod cells;
 pub mod counts;
+pub mod fault;
 pub mod operation;
+mod plans;
 pub mod reversal;
 #[cfg(test)]
 mod tests;

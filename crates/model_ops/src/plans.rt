@@ -1,0 +1,224 @@
+//! What an operation makes of the tree and the cells, before anything is changed.
+ghost use Rattle.std.specs.Prelude.{◌≡◌, ◌≢◌, ◌∷◌, [], ◌++◌, ℕ, List, Option, Ok, Some, None, is_some, option_copied, MatchResult};
+ghost use Rattle.item_definitions.specs.Item.{Item};
+ghost use Rattle.item_definitions.specs.Children.{at};
+ghost use Rattle.operation_definitions.specs.Level.{take_out, give};
+ghost use Rattle.operation_definitions.specs.Operation.{in_tree, in_cell, insert, move, attribute};
+ghost use Rattle.operation_definitions.specs.After.{effect, stands};
+ghost use Rattle.model_tree.specs.Places.{Gives};
+ghost use Rattle.model_ops.specs.Effects.{Plans, fault_of, given_if, placed};
+
+use crate::cells::Cells;
+use crate::fault::{Found, OpFault};
+use ck_base::name::Name;
+use ck_base::value::Value;
+use model_pos::{Position, Range, is_flat, is_in_run};
+use model_tree::fault::TreeFault;
+use model_tree::items::Items;
+
+/// A cell with what it is filled with, which may be nothing.
+#[derive(Debug, Drop)]
+pub(crate) struct Filled {
+    pub(crate) number: u64,
+    pub(crate) items: Items,
+}
+
+/// The items of the tree, and the cell that is filled, if one is.
+#[derive(Debug, Drop)]
+pub(crate) struct Change {
+    pub(crate) items: Items,
+    pub(crate) cell: Option<Filled>,
+}
+
+/// A fault of the tree as one of an operation.
+fn op_fault(fault: TreeFault) -> OpFault
+    ensures { result ≡ fault_of fault }
+{
+    match fault {
+        TreeFault::NoPlace => OpFault::NoPlace,
+        TreeFault::NoMemory => OpFault::NoMemory,
+    }
+}
+
+/// A change of the tree alone.
+#[tactic(auto, using(crate::proofs::Planned::kept_made, crate::proofs::Planned::kept_fault))]
+fn kept(made: Result<Items, TreeFault>) -> Result<Change, OpFault>
+    ensures { (wanted : Option (List Item)) (cells : List (List Item)) → Gives wanted made → Plans (placed wanted cells) cells result }
+{
+    match made {
+        Ok(items) => Ok(Change { items, cell: None }),
+        Err(fault) => Err(op_fault(fault)),
+    }
+}
+
+/// Whether `count` items are behind an offset in the element at a path.
+#[tactic(auto, using(model_tree::proofs::Puts::out_nowhere, model_tree::proofs::Puts::out_short, model_tree::proofs::Puts::out_there))]
+fn has_run(items: &Items, parent: &[u32], offset: u32, count: u32) -> bool
+    ensures { result ≡ is_some (at parent.now (take_out offset count) items.now) }
+{
+    match items.list_at(parent) {
+        Some(level) => level.has_run(offset, count),
+        None => false,
+    }
+}
+
+/// Whether a position is there.
+#[tactic(auto, using(model_tree::proofs::Removed::place_there, model_tree::proofs::Removed::place_nowhere, model_tree::proofs::Removed::place_short))]
+fn has_place(items: &Items, parent: &[u32], offset: u32) -> bool
+    ensures { result ≡ is_some (stands items.now (parent.now ++ offset ∷ [])) }
+{
+    match items.list_at(parent) {
+        Some(level) => level.has_run(offset, 0),
+        None => false,
+    }
+}
+
+/// Items come in at a position.
+#[tactic(auto, using(crate::proofs::Planned::insert_plans))]
+pub(crate) fn insert(items: &Items, at: &Position, new: &Items) -> Result<Change, OpFault>
+    ensures { (cells : List (List Item)) → Plans (effect items.now cells (insert at.now new.now)) cells result }
+{
+    let (parent, offset) = at.split();
+    kept(items.put_in_at(parent, offset, new))
+}
+
+/// A run moves to a position of the tree.
+pub(crate) fn move_in_tree(
+    items: &Items,
+    from: &Position,
+    count: u32,
+    to: &Position,
+) -> Result<Change, OpFault>
+    ensures { (cells : List (List Item)) → Plans (effect items.now cells (move (in_tree from.now) count (in_tree to.now))) cells result }
+{
+    let (parent, offset) = from.split();
+    let (above, last) = to.split();
+    if !has_run(items, parent, offset, count) {
+        return Err(OpFault::NoPlace);
+    }
+    if !has_place(items, above, last) {
+        return Err(OpFault::NoPlace);
+    }
+    if is_in_run(from, count, to) {
+        return Err(OpFault::IntoItself);
+    }
+    kept(items.moved(parent, offset, count, above, last))
+}
+
+/// A run goes into a cell.
+pub(crate) fn move_to_cell(
+    items: &Items,
+    cells: &Cells,
+    from: &Position,
+    count: u32,
+    number: u64,
+) -> Result<Change, OpFault>
+    ensures { Plans (effect items.now cells.now (move (in_tree from.now) count (in_cell number))) cells.now result }
+{
+    let (parent, offset) = from.split();
+    let (rest, run) = match items.take_out_at(parent, offset, count) {
+        Ok(both) => both,
+        Err(fault) => return Err(op_fault(fault)),
+    };
+    if !cells.is_free(number) {
+        return Err(OpFault::CellState(number));
+    }
+    Ok(Change {
+        items: rest,
+        cell: Some(Filled { number, items: run }),
+    })
+}
+
+/// The items of a cell go to a position.
+pub(crate) fn move_from_cell(
+    items: &Items,
+    cells: &Cells,
+    number: u64,
+    count: u32,
+    to: &Position,
+) -> Result<Change, OpFault>
+    ensures { Plans (effect items.now cells.now (move (in_cell number) count (in_tree to.now))) cells.now result }
+{
+    if !cells.holds_count(number, count) {
+        return Err(OpFault::CellState(number));
+    }
+    let Some(run) = cells.get(number) else {
+        unreachable!();
+    };
+    let (parent, offset) = to.split();
+    let made = match items.put_in_at(parent, offset, run) {
+        Ok(made) => made,
+        Err(fault) => return Err(op_fault(fault)),
+    };
+    let Ok(none) = Items::new(items.allocator()) else {
+        return Err(OpFault::NoMemory);
+    };
+    Ok(Change {
+        items: made,
+        cell: Some(Filled {
+            number,
+            items: none,
+        }),
+    })
+}
+
+/// The refusal of a run in which a value is another one.
+fn value_differs(found: Option<&Value>) -> Result<Change, OpFault>
+    ensures { MatchResult result (λ _. ⊥) (λ fault. fault ≢ OpFault.NoMemory → fault ≡ OpFault.OldDiffers (Found.Value (option_copied found.entry))) }
+{
+    match found {
+        Some(value) => match value.copy() {
+            Ok(value) => Err(OpFault::OldDiffers(Found::Value(Some(value)))),
+            Err(_) => Err(OpFault::NoMemory),
+        },
+        None => Err(OpFault::OldDiffers(Found::Value(None))),
+    }
+}
+
+/// The items of a range get another value of a key.
+#[tactic(auto, using(crate::proofs::Given::not_flat_here, crate::proofs::Given::flat_plans))]
+pub(crate) fn attribute(
+    items: &Items,
+    range: &Range,
+    key: &Name,
+    old: &Option<Value>,
+    new: &Option<Value>,
+) -> Result<Change, OpFault>
+    ensures { (cells : List (List Item)) → Plans (effect items.now cells (attribute range.now key.now old.now new.now)) cells result }
+{
+    if !is_flat(range) {
+        return Err(OpFault::NotFlat);
+    }
+    let (parent, start) = range.start().split();
+    let count = range.end().offset().saturating_sub(start);
+    give(items, parent, start, count, key, old.as_ref(), new.as_ref())
+}
+
+/// A run gets another value of a key, if each of its items has the old one.
+fn give(
+    items: &Items,
+    parent: &[u32],
+    start: u32,
+    count: u32,
+    key: &Name,
+    old: Option<&Value>,
+    new: Option<&Value>,
+) -> Result<Change, OpFault>
+    ensures { (cells : List (List Item)) → Plans (given_if (option_copied old.entry) key.now (at parent.now (give start count key.now (option_copied new.entry)) items.now) cells) cells result }
+{
+    let Some(level) = items.list_at(parent) else {
+        return Err(OpFault::NoPlace);
+    };
+    let end = start as u64 + count as u64;
+    let long = level.len();
+    if long < end {
+        return Err(OpFault::NoPlace);
+    }
+    let Ok(run) = level.range(start as usize, count as usize) else {
+        return Err(OpFault::NoMemory);
+    };
+    match run.other_value(key, old) {
+        Some(found) => value_differs(found),
+        None => kept(items.give_at(parent, start, count, key, new)),
+    }
+}
