@@ -1,0 +1,5 @@
+pub mod Marks
+pub mod Values
+pub mod ModelText
+pub mod ViewText
+pub mod Sample

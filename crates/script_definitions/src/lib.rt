@@ -1,0 +1,4 @@
+//! What a script line asks for, as definitions in `specs/`. It has no program code but the type of requests.
+#![tactic(auto)]
+
+pub mod request;

@@ -1,0 +1,164 @@
+//! The forms of edits: each is read, and refused at each of its fields.
+use crate::request::read_request;
+use json_forms::fault::FormFault;
+use script_definitions::request::Request;
+use std::alloc::Global;
+use std::test::Fail;
+
+/// A field's JSON text that fits each form in which the field stands.
+fn fitting(field: &str) -> &'static str {
+    match field {
+        "at" | "start" | "end" | "to" => "[0,0]",
+        "path" => "[0]",
+        "name" | "key" => "\"x\"",
+        "text" => "\"t\"",
+        _ => "true",
+    }
+}
+
+/// The line of a change of one edit that has these fields but one, and behind them some more text.
+fn line_of(
+    alloc: Global,
+    edit: &str,
+    fields: &[&str],
+    left_out: &str,
+    more: &str,
+) -> Result<String, Fail> {
+    let mut line = String::from_str(alloc, "{\"do\":\"change\",\"edits\":[{\"edit\":\"")?;
+    line.push_str(edit)?;
+    line.push_str("\"")?;
+    for field in fields {
+        if *field != left_out {
+            line.push_str(",\"")?;
+            line.push_str(field)?;
+            line.push_str("\":")?;
+            line.push_str(fitting(field))?;
+        }
+    }
+    line.push_str(more)?;
+    line.push_str("}]}")?;
+    Ok(line)
+}
+
+/// Whether a line is a change of so many edits.
+fn is_change(alloc: Global, line: &str, count: usize) -> bool {
+    match read_request(alloc, line.as_bytes()) {
+        Ok(Request::Change(edits)) => edits.as_slice().len() == count,
+        _ => false,
+    }
+}
+
+/// Whether a line is refused at a field of its first edit.
+fn is_refused_at(alloc: Global, line: &str, field: &str) -> Result<bool, Fail> {
+    let mut path = String::from_str(alloc, "/edits/0/")?;
+    path.push_str(field)?;
+    match read_request(alloc, line.as_bytes()) {
+        Err(FormFault::BadField { path: found }) => {
+            let want: Vec<char> = path.as_str().chars().collect(alloc)?;
+            Ok(found.scalars() == want.as_slice())
+        }
+        _ => Ok(false),
+    }
+}
+
+/// Whether an edit with these fields is read, and is refused without each of them, with each of another kind, and with one more.
+fn has_fields(alloc: Global, edit: &str, fields: &[&str]) -> Result<bool, Fail> {
+    let whole = line_of(alloc, edit, fields, "", "")?;
+    let surplus = line_of(alloc, edit, fields, "", ",\"surplus\":1")?;
+    let mut all = is_change(alloc, whole.as_str(), 1)
+        && is_refused_at(alloc, surplus.as_str(), "surplus")?;
+    for field in fields {
+        let without = line_of(alloc, edit, fields, field, "")?;
+        all = all && is_refused_at(alloc, without.as_str(), field)?;
+        let mut wrong = String::from_str(alloc, ",\"")?;
+        wrong.push_str(field)?;
+        wrong.push_str("\":{}")?;
+        let of_other_kind = line_of(alloc, edit, fields, field, wrong.as_str())?;
+        all = all && is_refused_at(alloc, of_other_kind.as_str(), field)?;
+    }
+    Ok(all)
+}
+
+#[test]
+fn fields_of_edits(rt: HostRuntime) -> Result<(), Fail> {
+    let alloc = rt.alloc();
+    assert!(rt; has_fields(alloc, "insertText", &["at", "text"])?);
+    assert!(rt; has_fields(alloc, "insertElement", &["at", "name"])?);
+    assert!(rt; has_fields(alloc, "remove", &["start", "end"])?);
+    assert!(rt; has_fields(alloc, "move", &["start", "end", "to"])?);
+    assert!(rt; has_fields(alloc, "setAttribute", &["start", "end", "key", "value"])?);
+    assert!(rt; has_fields(alloc, "removeAttribute", &["start", "end", "key"])?);
+    assert!(rt; has_fields(alloc, "rename", &["path", "name"])?);
+    assert!(rt; has_fields(alloc, "split", &["at"])?);
+    assert!(rt; has_fields(alloc, "merge", &["at"])?);
+    Ok(())
+}
+
+#[test]
+fn fields_of_other_edits(rt: HostRuntime) -> Result<(), Fail> {
+    let alloc = rt.alloc();
+    assert!(rt; has_fields(alloc, "wrap", &["start", "end", "name"])?);
+    assert!(rt; has_fields(alloc, "unwrap", &["path"])?);
+    assert!(rt; has_fields(alloc, "addMarker", &["name", "start", "end"])?);
+    assert!(rt; has_fields(alloc, "updateMarker", &["name", "start", "end"])?);
+    assert!(rt; has_fields(alloc, "removeMarker", &["name"])?);
+    assert!(rt; has_fields(alloc, "select", &["start"])?);
+    assert!(rt; has_fields(alloc, "selectionAttribute", &["key", "value"])?);
+    Ok(())
+}
+
+#[test]
+fn other_forms(rt: HostRuntime) -> Result<(), Fail> {
+    let alloc = rt.alloc();
+    let rows = [
+        ("{\"edit\":\"fly\"}", "edit"),
+        (
+            "{\"edit\":\"setAttribute\",\"key\":\"x\",\"value\":1}",
+            "start",
+        ),
+        (
+            "{\"edit\":\"setAttribute\",\"path\":[0],\"end\":7,\"key\":\"x\",\"value\":1}",
+            "path",
+        ),
+        (
+            "{\"edit\":\"setAttribute\",\"path\":[0],\"key\":\"x\",\"value\":1.5}",
+            "value",
+        ),
+        ("{\"edit\":\"insertText\",\"at\":[],\"text\":\"\"}", "at"),
+        (
+            "{\"edit\":\"insertText\",\"at\":[0,-1],\"text\":\"\"}",
+            "at/1",
+        ),
+        (
+            "{\"edit\":\"insertText\",\"at\":[0],\"text\":\"\",\"attributes\":{\"a b\":7,\"c\":1}}",
+            "attributes/a b",
+        ),
+        (
+            "{\"edit\":\"insertText\",\"at\":[0],\"text\":\"\",\"attributes\":{\"a\":null}}",
+            "attributes/a",
+        ),
+        (
+            "{\"edit\":\"insertText\",\"at\":[0],\"text\":\"\",\"attributes\":null}",
+            "attributes",
+        ),
+        (
+            "{\"edit\":\"select\",\"start\":[0],\"backward\":0}",
+            "backward",
+        ),
+    ];
+    for (edit, field) in rows {
+        let mut line = String::from_str(alloc, "{\"do\":\"change\",\"edits\":[")?;
+        line.push_str(edit)?;
+        line.push_str("]}")?;
+        assert!(rt; is_refused_at(alloc, line.as_str(), field)?);
+    }
+    assert!(rt; is_change(alloc, "{\"do\":\"change\",\"edits\":[]}", 0));
+    assert!(rt;
+        is_change(
+            alloc,
+            "{\"do\":\"change\",\"edits\":[{\"edit\":\"unwrap\",\"path\":[]},{\"edit\":\"selectionAttribute\",\"key\":\"x\",\"value\":null}]}",
+            2
+        )
+    );
+    Ok(())
+}
