@@ -2,3 +2,4 @@ pub mod Behind
 pub mod InCells
 pub mod Planned
 pub mod Given
+pub mod Renamed

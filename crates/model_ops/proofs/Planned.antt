@@ -26,7 +26,7 @@ kept_fault wanted cells tree_fault.NoPlace g h = ap (λ o. refusal (placed o cel
 kept_fault wanted cells tree_fault.NoMemory g h = absurd (h refl)
 
 -- the last step of an operation that leaves the cells
-placed-is : {R : Type 0} (o : Option (List Item × R)) (cells : List (List Item)) → (ok_or o no_place >>= (λ made. Ok (made.0, cells))) ≡ placed (changed o) cells
+pub placed-is : {R : Type 0} (o : Option (List Item × R)) (cells : List (List Item)) → (ok_or o no_place >>= (λ made. Ok (made.0, cells))) ≡ placed (changed o) cells
 placed-is None cells = refl
 placed-is (Some made) cells = refl
 

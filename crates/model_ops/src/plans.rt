@@ -3,7 +3,7 @@ ghost use Rattle.std.specs.Prelude.{◌≡◌, ◌≢◌, ◌∷◌, [], ◌++�
 ghost use Rattle.item_definitions.specs.Item.{Item};
 ghost use Rattle.item_definitions.specs.Children.{at};
 ghost use Rattle.operation_definitions.specs.Level.{take_out, give};
-ghost use Rattle.operation_definitions.specs.Operation.{in_tree, in_cell, insert, move, attribute};
+ghost use Rattle.operation_definitions.specs.Operation.{in_tree, in_cell, insert, move, attribute, rename};
 ghost use Rattle.operation_definitions.specs.After.{effect, stands};
 ghost use Rattle.model_tree.specs.Places.{Gives};
 ghost use Rattle.model_ops.specs.Effects.{Plans, fault_of, given_if, placed};
@@ -11,10 +11,13 @@ ghost use Rattle.model_ops.specs.Effects.{Plans, fault_of, given_if, placed};
 use crate::cells::Cells;
 use crate::fault::{Found, OpFault};
 use ck_base::name::Name;
+use ck_base::path::Path;
 use ck_base::value::Value;
 use model_pos::{Position, Range, is_flat, is_in_run};
 use model_tree::fault::TreeFault;
 use model_tree::items::Items;
+use model_tree::reading::ItemRef;
+use model_tree::tree::Tree;
 
 /// A cell with what it is filled with, which may be nothing.
 #[derive(Debug, Drop)]
@@ -220,5 +223,26 @@ fn give(
     match run.other_value(key, old) {
         Some(found) => value_differs(found),
         None => kept(items.give_at(parent, start, count, key, new)),
+    }
+}
+
+/// The element at a path gets another name.
+pub(crate) fn rename(tree: &Tree, path: &Path, old: &Name, new: &Name) -> Result<Change, OpFault>
+    ensures { (cells : List (List Item)) → Plans (effect tree.now cells (rename path.now old.now new.now)) cells result }
+{
+    let Some(item) = tree.item_at(path) else {
+        return Err(OpFault::NoPlace);
+    };
+    match item {
+        ItemRef::Character { .. } => Err(OpFault::NoPlace),
+        ItemRef::Element { name, .. } => {
+            if *name == *old {
+                return kept(tree.items().renamed_at(path.as_slice(), new));
+            }
+            match name.copy() {
+                Ok(name) => Err(OpFault::OldDiffers(Found::Name(name))),
+                Err(_) => Err(OpFault::NoMemory),
+            }
+        }
     }
 }
