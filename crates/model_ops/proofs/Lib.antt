@@ -3,3 +3,4 @@ pub mod InCells
 pub mod Planned
 pub mod Given
 pub mod Renamed
+pub mod Splitting

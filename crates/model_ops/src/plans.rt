@@ -1,23 +1,27 @@
 //! What an operation makes of the tree and the cells, before anything is changed.
-ghost use Rattle.std.specs.Prelude.{◌≡◌, ◌≢◌, ◌∷◌, [], ◌++◌, ℕ, List, Option, Ok, Some, None, is_some, option_copied, MatchResult};
-ghost use Rattle.item_definitions.specs.Item.{Item};
+ghost use Rattle.std.specs.Prelude.{◌≡◌, ◌≢◌, ◌∷◌, [], ◌++◌, ℕ, List, Option, Ok, Some, None, is_some, option_copied, MatchResult, IfOk};
+ghost use Rattle.item_definitions.specs.Item.{Item, element, none};
 ghost use Rattle.item_definitions.specs.Children.{at};
 ghost use Rattle.operation_definitions.specs.Level.{take_out, give};
-ghost use Rattle.operation_definitions.specs.Operation.{in_tree, in_cell, insert, move, attribute, rename};
+ghost use Rattle.operation_definitions.specs.Operation.{in_tree, in_cell, insert, move, attribute, rename, split, fresh};
 ghost use Rattle.operation_definitions.specs.After.{effect, stands};
 ghost use Rattle.model_tree.specs.Places.{Gives};
 ghost use Rattle.model_ops.specs.Effects.{Plans, fault_of, given_if, placed};
 
 use crate::cells::Cells;
 use crate::fault::{Found, OpFault};
+use ck_base::NoMemory;
+use ck_base::attributes::Attrs;
 use ck_base::name::Name;
 use ck_base::path::Path;
 use ck_base::value::Value;
 use model_pos::{Position, Range, is_flat, is_in_run};
 use model_tree::fault::TreeFault;
+use model_tree::id::ElementId;
 use model_tree::items::Items;
 use model_tree::reading::ItemRef;
 use model_tree::tree::Tree;
+use std::alloc::Global;
 
 /// A cell with what it is filled with, which may be nothing.
 #[derive(Debug, Drop)]
@@ -243,6 +247,36 @@ pub(crate) fn rename(tree: &Tree, path: &Path, old: &Name, new: &Name) -> Result
                 Ok(name) => Err(OpFault::OldDiffers(Found::Name(name))),
                 Err(_) => Err(OpFault::NoMemory),
             }
+        }
+    }
+}
+
+/// An element without children with this id, and the name and attributes of another one.
+fn shell_like(alloc: Global, id: ElementId, name: &Name, attrs: &Attrs) -> Result<Items, NoMemory>
+    ensures { IfOk result (λ shell. shell ≡ element id name.now attrs.now none ∷ []) }
+{
+    let name = name.copy()?;
+    let attrs = attrs.copy()?;
+    let children = Items::new(alloc)?;
+    Items::element(alloc, id, name, attrs, children)
+}
+
+/// The parent of a position is split, with a new element of this id for what is behind.
+pub(crate) fn split_fresh(tree: &Tree, at: &Position, id: ElementId) -> Result<Change, OpFault>
+    ensures { (cells : List (List Item)) → Plans (effect tree.now cells (split at.now (fresh id))) cells result }
+{
+    let path = at.parent();
+    let offset = at.offset();
+    let Some(item) = tree.item_at(&path) else {
+        return Err(OpFault::NoPlace);
+    };
+    match item {
+        ItemRef::Character { .. } => Err(OpFault::NoPlace),
+        ItemRef::Element { name, attrs, .. } => {
+            let Ok(shell) = shell_like(tree.items().allocator(), id, name, attrs) else {
+                return Err(OpFault::NoMemory);
+            };
+            kept(tree.items().split_with(path.as_slice(), offset, &shell))
         }
     }
 }
