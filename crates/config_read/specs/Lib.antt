@@ -1,3 +1,4 @@
 pub mod FileForm
 pub mod Ordered
 pub mod Refused
+pub mod Texts

@@ -5,3 +5,4 @@ mod schema_file;
 pub mod settings;
 #[cfg(test)]
 mod tests;
+pub mod texts;
