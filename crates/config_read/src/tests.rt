@@ -1,5 +1,9 @@
 //! Files that are read and files that are refused, with ample memory.
+ghost use Rattle.std.specs.Prelude.{◌≢◌};
+
 use crate::settings::{Settings, read_settings};
+use crate::texts::settings_text;
+use ck_base::faults::FieldPath;
 use ck_base::name::Name;
 use settings_definitions::fault::SettingsFault;
 use std::alloc::Global;
@@ -60,4 +64,30 @@ fn refuses_files(rt: HostRuntime) {
     for (text, want) in rows {
         assert_eq!(rt; refusal(rt.alloc(), text), want, "{text}");
     }
+}
+
+/// The text of a fault.
+fn text_of(alloc: Global, fault: &SettingsFault) -> Result<String, Fail>
+    requires { fault.now ≢ SettingsFault.NoMemory }
+{
+    Ok(settings_text(alloc, fault)?)
+}
+
+#[test]
+fn prints_faults(rt: HostRuntime) -> Result<(), Fail> {
+    let alloc = rt.alloc();
+    let path = FieldPath::new(alloc).field("a<b")?;
+    let fault = SettingsFault::BadField(path);
+    assert_eq!(rt; text_of(alloc, &fault)?.as_str(), "BadField /a&lt;b");
+    let fault = SettingsFault::UnknownItem(Name::read(alloc, "quote")?);
+    assert_eq!(rt; text_of(alloc, &fault)?.as_str(), "UnknownItem quote");
+    assert_eq!(rt;
+        text_of(alloc, &SettingsFault::BadCheck(1))?.as_str(),
+        "BadCheck 1"
+    );
+    assert_eq!(rt;
+        text_of(alloc, &SettingsFault::NotJson)?.as_str(),
+        "NotJson"
+    );
+    Ok(())
 }
