@@ -248,6 +248,7 @@ changed-sound operation state made sound fits e =
       distinct = distinct_from ids (λ id. (let a = counts id in let b = once id in omega (arith, a, b)));
       drawn = each_from (λ id. (1 ≤ id) × (id < raised next (brought operation))) ids (λ id here. known id (let a = counts id in let b = times-append id (brought operation) old in omega (arith, a, b, here)));
       next = raised-most (brought operation) next sound.next fits.known;
+      some = (let least = raised-least (brought operation) next in let first = sound.some in omega (arith, least, first));
       markers = markers-in operation state made fits e sound.markers;
       named = markers-named operation state.document.markers sound.named;
       selection = selection-in (shift_of operation) state.document.items made.0 state.document.selection (keeps_ranges state.document.items state.cells operation made state.document.selection.range fits.places e) sound.selection;

@@ -1,6 +1,7 @@
 -- A document, and one operation on it. (After `Model` and `Operation` of CKEditor 5's model.)
-use Rattle.std.specs.Prelude.{ℕ, ◌+◌, max, List, [], ◌∷◌, ◌++◌, length, Result, Ok, fold}
+use Rattle.std.specs.Prelude.{ℕ, ◌+◌, max, List, [], ◌∷◌, ◌++◌, length, false, Result, Ok, fold}
 use Rattle.item_definitions.specs.Item.{Item, Items, character, element, none, more}
+use Rattle.item_definitions.specs.Position.{between}
 use Rattle.item_definitions.specs.Shift as shifts
 use Rattle.item_definitions.specs.Shift.{Shift, stay, remove}
 use Rattle.operation_definitions.specs.Operation.{Operation, Fault, Place, in_tree, in_cell, fresh, from_cell, insert, move, attribute, rename, split, merge, marker}
@@ -86,8 +87,37 @@ changed operation state made = record {
   cells = made.1;
 }
 
+-- the same state with this selection
+abbrev pub with_selection : Selection → State → State
+with_selection selection state = record {
+  document = record {
+    items = state.document.items;
+    markers = state.document.markers;
+    selection = selection;
+    next_id = state.document.next_id;
+  };
+  cells = state.cells;
+}
+
+-- a document without items, whose first new element gets this id, and beside it no cells
+abbrev pub empty_state : ℕ → State
+empty_state first_id = record {
+  document = record {
+    items = [];
+    markers = [];
+    selection = selections.selected (between (0 ∷ []) (0 ∷ [])) false;
+    next_id = first_id;
+  };
+  cells = [];
+}
+
 -- the state after an operation, or why that is refused
 abbrev pub applied : Operation → State → Result State Fault
 applied operation state = do
   made ← after state.document.items state.cells operation
   Ok (changed operation state made)
+
+-- the state after operations, one after the other, or why the first that is refused is
+abbrev pub all_applied : List Operation → State → Result State Fault
+all_applied [] state = Ok state
+all_applied (operation ∷ operations) state = applied operation state >>= all_applied operations

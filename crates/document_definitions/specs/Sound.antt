@@ -30,6 +30,7 @@ pub record IsSound (state : State) : Type 0 where
   pub distinct : IsDistinct nat_eq (ids_in state.document.items state.cells)
   pub drawn : All (λ id. (1 ≤ id) × (id < state.document.next_id)) (ids_in state.document.items state.cells)
   pub next : state.document.next_id ≤ 2 ^ 63
+  pub some : 1 ≤ state.document.next_id
   pub markers : AreIn state.document.items state.document.markers
   pub named : IsOrdered state.document.markers
   pub selection : IsSelection state.document.items state.document.selection

@@ -1,19 +1,20 @@
 -- What a document is after an edit, and after a list of edits.
-use Rattle.std.specs.Prelude.{ℕ, ◌+◌, List, [], ◌∷◌, Bool, Result, Ok, Err}
+use Rattle.std.specs.Prelude.{ℕ, ◌+◌, ◌-◌, ◌^◌, min, List, [], ◌∷◌, Bool, Result, Ok, Err}
 use Rattle.ck_base.specs.declared.faults.EditFault.{EditFault}
 use Rattle.ck_base.specs.declared.faults.EditFault.TheVariants.{TooLarge, TooDeep, NoMemory}
 use Rattle.item_definitions.specs.Position.{between}
 use Rattle.operation_definitions.specs.Operation.{Operation, Fault, no_place, not_flat, into_itself, old_differs, not_neighbours, cell_state, too_large, too_deep}
-use Rattle.document_definitions.specs.Selection.{Selection, selected, with_override}
-use Rattle.document_definitions.specs.Document.{State, applied}
+use Rattle.document_definitions.specs.Selection.{selected, with_override}
+use Rattle.document_definitions.specs.Document.{State, with_selection, all_applied}
 use Rattle.edit_definitions.specs.declared.edit.Edit.{Edit}
 use Rattle.edit_definitions.specs.declared.edit.Edit.TheVariants.{Select, SelectionAttribute}
 use Rattle.edit_definitions.specs.Planned.{◌>>=◌, operations_of}
 
--- the fault of an edit one of whose operations is refused: its premises hold, so that the limits on the tree alone can refuse one
+-- The fault of an edit one of whose operations is refused: its premises hold, so that the limits on the tree alone can refuse one. A count or
+-- a depth that is larger than the type of its field is the greatest number of that type.
 abbrev pub limit_fault : ℕ → Fault → EditFault
-limit_fault edit (too_large count) = TooLarge edit count
-limit_fault edit (too_deep depth) = TooDeep edit depth
+limit_fault edit (too_large count) = TooLarge edit (min count (2 ^ 64 - 1))
+limit_fault edit (too_deep depth) = TooDeep edit (min depth (2 ^ 32 - 1))
 limit_fault edit no_place = NoMemory
 limit_fault edit not_flat = NoMemory
 limit_fault edit into_itself = NoMemory
@@ -21,27 +22,10 @@ limit_fault edit (old_differs found) = NoMemory
 limit_fault edit not_neighbours = NoMemory
 limit_fault edit (cell_state number) = NoMemory
 
--- an operation's answer as one of the edit
+-- the answer of operations as one of their edit
 abbrev pub as_step : ℕ → Result State Fault → Result State EditFault
 as_step edit (Ok state) = Ok state
 as_step edit (Err fault) = Err (limit_fault edit fault)
-
--- the state after operations, one after the other
-abbrev pub all_applied : ℕ → List Operation → State → Result State EditFault
-all_applied edit [] state = Ok state
-all_applied edit (operation ∷ operations) state = as_step edit (applied operation state) >>= all_applied edit operations
-
--- the same state with this selection
-abbrev pub with_selection : Selection → State → State
-with_selection selection state = record {
-  document = record {
-    items = state.document.items;
-    markers = state.document.markers;
-    selection = selection;
-    next_id = state.document.next_id;
-  };
-  cells = state.cells;
-}
 
 -- what an edit makes of the selection
 abbrev pub selecting : Edit → State → State
@@ -53,7 +37,7 @@ selecting edit state = state
 abbrev pub performed : (List ℕ → Bool) → ℕ → Edit → State → Result State EditFault
 performed registered number edit state = do
   operations ← operations_of registered number edit state
-  made ← all_applied number operations state
+  made ← as_step number (all_applied operations state)
   Ok (selecting edit made)
 
 -- the state after edits, one after the other, of which the first has this number

@@ -5,11 +5,9 @@ use Rattle.ck_base.specs.declared.faults.EditFault.{EditFault}
 use Rattle.ck_base.specs.declared.faults.Refusal.{Refusal}
 use Rattle.ck_base.specs.declared.faults.Refusal.TheVariants.{Edit as EditRefused, Schema}
 use Rattle.ck_base.specs.declared.faults.Rule.{Rule}
-use Rattle.item_definitions.specs.Position.{between}
 use Rattle.schema_definitions.specs.Allowed.{Rules, is_registered}
 use Rattle.breach_definitions.specs.Breach.{breach}
-use Rattle.document_definitions.specs.Selection.{selected}
-use Rattle.document_definitions.specs.Document.{State}
+use Rattle.document_definitions.specs.Document.{State, empty_state}
 use Rattle.edit_definitions.specs.declared.edit.Edit.{Edit}
 use Rattle.edit_definitions.specs.declared.edit.Edit.TheVariants.{InsertElement, Select}
 use Rattle.edit_definitions.specs.Performed.{all_performed}
@@ -27,18 +25,6 @@ tested rules (Err fault) = Err (EditRefused fault)
 -- the state after a change, or its refusal
 abbrev pub step : Rules → List Edit → State → Result State Refusal
 step rules edits state = tested rules (all_performed (is_registered rules) 1 edits state)
-
--- a document without items, whose first new element gets this id, and beside it no cells
-abbrev pub empty_state : ℕ → State
-empty_state first_id = record {
-  document = record {
-    items = [];
-    markers = [];
-    selection = selected (between (0 ∷ []) (0 ∷ [])) false;
-    next_id = first_id;
-  };
-  cells = [];
-}
 
 -- the edits that open a document: one empty element of the start's name, with the selection in it, or none
 abbrev pub opening : Option (List ℕ) → List Edit

@@ -8,7 +8,8 @@ ghost use Rattle.ck_base.specs.declared.faults.Refusal.TheVariants.{Edit, Schema
 ghost use Rattle.ck_base.specs.declared.faults.Rule.TheVariants.{Child};
 ghost use Rattle.schema_definitions.specs.Sample.{sample};
 ghost use Rattle.edit_definitions.specs.declared.edit.Edit.TheVariants.{InsertText, InsertElement};
-ghost use Rattle.step_definitions.specs.Step.{step, opened, empty_state};
+ghost use Rattle.document_definitions.specs.Document.{empty_state};
+ghost use Rattle.step_definitions.specs.Step.{step, opened};
 
 /// A change is refused by its second edit, and a document by the schema; a start that may not stand in the root is refused.
 pub fn refused()
