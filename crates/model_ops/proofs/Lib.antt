@@ -4,3 +4,6 @@ pub mod Planned
 pub mod Given
 pub mod Renamed
 pub mod Splitting
+pub mod Merging
+pub mod Parting
+pub mod Limiting
