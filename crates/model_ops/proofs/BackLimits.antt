@@ -1,5 +1,5 @@
 -- The numbers of a reversal keep to the limits, where its operation isn't refused.
-use Rattle.std.proofs.Common.{◌≡◌, ℕ, zero, suc, ◌+◌, ◌-◌, ◌<◌, ◌≤◌, ◌^◌, true, nat_eq, nat_le, nat_lt, not, List, [], ◌∷◌, ◌++◌, length, set, All, Option, Some, None, option_map, ok_or, slice_get, Result, Ok, Err, IfOk, refl, sym, ap, ◌∙◌, subst, arith}
+use Rattle.std.proofs.Common.{◌≡◌, ℕ, zero, suc, ◌+◌, ◌-◌, ◌<◌, ◌≤◌, ◌^◌, true, nat_eq, nat_le, nat_lt, not, List, [], ◌∷◌, ◌++◌, length, set, All, Option, Some, None, option_map, ok_or, slice_get, Result, Ok, refl, sym, ap, ◌∙◌, subst, arith}
 use Rattle.std.specs.Prelude.{is_some}
 use Rattle.std.specs.Cmp.Lexicographic.{pointwise}
 use Rattle.std.proofs.lemmas.Bool.Decides.{nat_tests}
@@ -26,9 +26,7 @@ use Rattle.model_tree.proofs.Limited.{count-list, depth-list, take_out_counts, t
 use Rattle.model_tree.proofs.Room.{put_in_count}
 use Rattle.model_tree.proofs.Removed.{place_there, carried_in}
 use Rattle.model_tree.proofs.Shown.{length_count}
-use Rattle.model_ops.specs.declared.fault.OpFault.{OpFault}
-use Rattle.model_ops.specs.declared.plans.Change.{Change}
-use Rattle.model_ops.specs.Effects.{Plans, filled, left_of}
+use Rattle.model_ops.specs.Effects.{left_of}
 use Rattle.model_ops.specs.Limits.{IsWithin, SplitsElement}
 use Rattle.model_ops.proofs.Limiting.{after_tree}
 use Rattle.model_ops.proofs.Merging.{left-count, end-joined}
@@ -230,8 +228,3 @@ module _ (items : List Item) (cells : List (List Item)) (made : State) (tree : I
 pub back_within : (items : List Item) (cells : List (List Item)) (operation : Operation) (made : State) → IsTree items → after items cells operation ≡ Ok made → (cell : ℕ) → SplitsElement operation × IsWithin (back operation cell)
 back_within items cells operation made tree e cell =
     back-within items cells made tree (after_tree items cells operation made e) operation (after-effect items cells operation made e) cell
-
-pub planned_back : (items : List Item) (cells : List (List Item)) (operation : Operation) (result : Result Change OpFault) → IsTree items → Plans (after items cells operation) cells result
-    → IfOk result (λ _. (cell : ℕ) → SplitsElement operation × IsWithin (back operation cell))
-planned_back items cells operation (Ok change) tree plans = back_within items cells operation (change.items, filled change.cell cells) tree plans.0
-planned_back items cells operation (Err fault) tree plans = tt

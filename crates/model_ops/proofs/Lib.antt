@@ -7,3 +7,4 @@ pub mod Splitting
 pub mod Merging
 pub mod Parting
 pub mod Limiting
+pub mod BackLimits

@@ -55,7 +55,7 @@ module _ (right target : List ℕ) (number : ℕ) (xs : List Item) (cells : List
   made_at = at (parent_of right) (merge_at (offset_of right)) xs
 
   -- an element that is merged has so many items as the merge tells
-  left-count : (made : List Item × (Item × ℕ)) → made_at ≡ Some made → child_count xs (left_of right) ≡ Some made.1.1
+  pub left-count : (made : List Item × (Item × ℕ)) → made_at ≡ Some made → child_count xs (left_of right) ≡ Some made.1.1
   left-count made e =
       let d = changed_level (merge_at (offset_of right)) (parent_of right) xs made.0 made.1 e in
       let h = replaced (offset_of right - 1) 2 merge_items d.level d.new made.1 d.made in
@@ -80,7 +80,7 @@ module _ (right target : List ℕ) (number : ℕ) (xs : List Item) (cells : List
   positive : (n : ℕ) → nat_lt 0 n ≡ true → 0 < n
   positive n e = grind (arith, nat_tests)
 
-  end-joined : (front : List ℕ) (index count : ℕ) → front ++ index ∷ count ∷ [] ≡ (front ++ index ∷ []) ++ count ∷ []
+  pub end-joined : (front : List ℕ) (index count : ℕ) → front ++ index ∷ count ∷ [] ≡ (front ++ index ∷ []) ++ count ∷ []
   end-joined [] index count = refl
   end-joined (x ∷ front) index count = ap (λ rest. x ∷ rest) (end-joined front index count)
 
