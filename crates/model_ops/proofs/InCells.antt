@@ -5,21 +5,21 @@ use Rattle.std.proofs.lemmas.Bool.Decides.{nat_tests}
 use Rattle.item_definitions.specs.Item.{Item}
 use Rattle.operation_definitions.specs.After.{in_cell_at, is_empty, is_free, fill, holds_count}
 
-get-past : {X : Type 0} (xs : List X) (n : ℕ) (d : X) → length xs ≤ n → get_or xs n d ≡ d
+pub get-past : {X : Type 0} (xs : List X) (n : ℕ) (d : X) → length xs ≤ n → get_or xs n d ≡ d
 get-past [] n d h = refl
 get-past (x ∷ xs) zero d h = absurd (omega arith)
 get-past (x ∷ xs) (suc n) d h = get-past xs n d (omega arith)
 
-none-past : {X : Type 0} (xs : List X) (n : ℕ) → None ≡ slice_get xs n → length xs ≤ n
+pub none-past : {X : Type 0} (xs : List X) (n : ℕ) → None ≡ slice_get xs n → length xs ≤ n
 none-past [] n e = omega arith
 none-past (x ∷ xs) zero e = absurd cc
 none-past (x ∷ xs) (suc n) e = omega (arith, none-past xs n e)
 
 module _ (cells : List (List Item)) (number : ℕ) where
-  inside : (xs : List Item) → Some xs ≡ slice_get cells number → in_cell_at cells number ≡ xs
+  pub inside : (xs : List Item) → Some xs ≡ slice_get cells number → in_cell_at cells number ≡ xs
   inside xs e = get_or_from_slice_get cells number xs [] (sym e)
 
-  within : (xs : List Item) → Some xs ≡ slice_get cells number → number < length cells
+  pub within : (xs : List Item) → Some xs ≡ slice_get cells number → number < length cells
   within xs e = slice_get_within cells number xs (sym e)
 
   pub free_there : (xs : List Item) (long : ℕ) → Some xs ≡ slice_get cells number → long ≡ min (length xs) (2 ^ 64 - 1) → (long == 0) ≡ is_free cells number

@@ -4,3 +4,7 @@ pub mod Planned
 pub mod Given
 pub mod Renamed
 pub mod Splitting
+pub mod Merging
+pub mod Parting
+pub mod Limiting
+pub mod BackLimits

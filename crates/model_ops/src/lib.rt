@@ -2,6 +2,7 @@
 //! CKEditor 5's model; its graveyard is here a list of numbered cells.)
 #![tactic(auto)]
 
+pub mod apply;
 pub mod cells;
 pub mod counts;
 pub mod fault;

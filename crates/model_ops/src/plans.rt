@@ -1,12 +1,12 @@
 //! What an operation makes of the tree and the cells, before anything is changed.
-ghost use Rattle.std.specs.Prelude.{◌≡◌, ◌≢◌, ◌∷◌, [], ◌++◌, ℕ, List, Option, Ok, Some, None, is_some, option_copied, MatchResult, IfOk};
+ghost use Rattle.std.specs.Prelude.{◌≡◌, ◌↔◌, IsTrue, ◌≢◌, ◌∷◌, [], ◌++◌, ℕ, List, Option, Ok, Some, None, is_some, option_copied, MatchResult, IfOk};
 ghost use Rattle.item_definitions.specs.Item.{Item, element, none};
 ghost use Rattle.item_definitions.specs.Children.{at};
 ghost use Rattle.operation_definitions.specs.Level.{take_out, give};
-ghost use Rattle.operation_definitions.specs.Operation.{in_tree, in_cell, insert, move, attribute, rename, split, fresh};
-ghost use Rattle.operation_definitions.specs.After.{effect, stands};
+ghost use Rattle.operation_definitions.specs.Operation.{in_tree, in_cell, insert, move, attribute, rename, split, fresh, from_cell, merge};
+ghost use Rattle.operation_definitions.specs.After.{effect, shell_of, stands};
 ghost use Rattle.model_tree.specs.Places.{Gives};
-ghost use Rattle.model_ops.specs.Effects.{Plans, fault_of, given_if, placed};
+ghost use Rattle.model_ops.specs.Effects.{Plans, IsLeftEnd, fault_of, given_if, placed};
 
 use crate::cells::Cells;
 use crate::fault::{Found, OpFault};
@@ -278,5 +278,120 @@ pub(crate) fn split_fresh(tree: &Tree, at: &Position, id: ElementId) -> Result<C
             };
             kept(tree.items().split_with(path.as_slice(), offset, &shell))
         }
+    }
+}
+
+/// Whether a list of items is one element without children.
+#[tactic(auto, using(crate::proofs::Parting::shell_none, crate::proofs::Parting::shell_long, crate::proofs::Parting::shell_one))]
+fn is_shell(items: &Items) -> bool
+    ensures { result ≡ is_some (shell_of items.now) }
+{
+    if items.len() != 1 {
+        return false;
+    }
+    match items.list_at(&[0]) {
+        Some(children) => children.len() == 0,
+        None => false,
+    }
+}
+
+/// The parent of a position is split, with the element that is in a cell for what is behind.
+pub(crate) fn split_from_cell(
+    items: &Items,
+    cells: &Cells,
+    at: &Position,
+    number: u64,
+) -> Result<Change, OpFault>
+    ensures { Plans (effect items.now cells.now (split at.now (from_cell number))) cells.now result }
+{
+    let (path, offset) = at.split();
+    if path.is_empty() {
+        return Err(OpFault::NoPlace);
+    }
+    if !has_place(items, path, offset) {
+        return Err(OpFault::NoPlace);
+    }
+    let Some(shell) = cells.get(number) else {
+        return Err(OpFault::CellState(number));
+    };
+    if !is_shell(shell) {
+        return Err(OpFault::CellState(number));
+    }
+    let made = match items.split_with(path, offset, shell) {
+        Ok(made) => made,
+        Err(fault) => return Err(op_fault(fault)),
+    };
+    let Ok(none) = Items::new(items.allocator()) else {
+        return Err(OpFault::NoMemory);
+    };
+    Ok(Change {
+        items: made,
+        cell: Some(Filled {
+            number,
+            items: none,
+        }),
+    })
+}
+
+/// Whether a position is behind the items of the element before the one at a path.
+fn is_left_end(items: &Items, right: &Path, target: &Position) -> bool
+    ensures { IsTrue result ↔ IsLeftEnd right.now target.now items.now }
+{
+    let (left, count) = target.split();
+    let Some((before, above)) = left.split_last() else {
+        return false;
+    };
+    let Some((index, parent)) = right.as_slice().split_last() else {
+        return false;
+    };
+    if above != parent {
+        return false;
+    }
+    if *before as u64 + 1 != *index as u64 {
+        return false;
+    }
+    match items.list_at(left) {
+        Some(level) => level.len() == count as u64,
+        None => false,
+    }
+}
+
+/// The element at a path is merged into the one before it, whose end is the target, and goes into a cell.
+pub(crate) fn merge(
+    items: &Items,
+    cells: &Cells,
+    right: &Path,
+    target: &Position,
+    number: u64,
+) -> Result<Change, OpFault>
+    ensures { Plans (effect items.now cells.now (merge right.now target.now number)) cells.now result }
+{
+    if !is_left_end(items, right, target) {
+        return Err(OpFault::NotNeighbours);
+    }
+    let (rest, emptied) = match items.merged_at(right.as_slice()) {
+        Ok(both) => both,
+        Err(TreeFault::NoPlace) => return Err(OpFault::NotNeighbours),
+        Err(TreeFault::NoMemory) => return Err(OpFault::NoMemory),
+    };
+    if !cells.is_free(number) {
+        return Err(OpFault::CellState(number));
+    }
+    Ok(Change {
+        items: rest,
+        cell: Some(Filled {
+            number,
+            items: emptied,
+        }),
+    })
+}
+
+/// Nothing changes.
+pub(crate) fn nothing(items: &Items) -> Result<Change, OpFault>
+    ensures { (cells : List (List Item)) → Plans (Ok (items.now, cells)) cells result }
+{
+    match items.copy() {
+        Ok(items) => Ok(Change { items, cell: None }),
+        Err(_) => Err(OpFault::NoMemory),
     }
 }
