@@ -2,7 +2,10 @@
 //! `Schema` of CKEditor 5's engine.)
 #![tactic(auto)]
 
+mod above;
+pub mod breaches;
 mod checks;
+mod chosen;
 pub mod compile;
 mod flags;
 mod graph;
@@ -16,3 +19,4 @@ mod steps;
 mod tables;
 #[cfg(test)]
 mod tests;
+mod walk;
