@@ -8,6 +8,6 @@ mod Finding
 mod KnownNames
 mod Ends
 mod Told
-mod Leading
+mod Nearing
 mod Placing
 mod Standing

@@ -1,13 +1,12 @@
 -- The first breach of items and of all that is in them.
 use Rattle.std.proofs.Common.{◌≡◌, ℕ, suc, ◌+◌, ◌-◌, ◌<◌, ◌≤◌, ◌^◌, List, [], ◌∷◌, ◌++◌, Bool, true, false, if◌then◌else◌, Option, Some, None, cond, codes, zero, option_map, map, length, take, drop, refl, sym, ap, ◌∙◌, arith, append_assoc}
-use Rattle.std.specs.Prelude.{is_some}
 use Rattle.std.specs.Option.{option_or}
 use Rattle.std.specs.List.{filter, find, list_any}
 use Rattle.std.proofs.lemmas.List.{length_push}
-use Rattle.std.proofs.Math.Seq.{take-append_seam}
+use Rattle.std.proofs.Math.Seq.{take-append_seam, drop-append_seam}
 use Rattle.ck_base.specs.declared.faults.Rule.{Rule}
 use Rattle.item_definitions.specs.Item.{Attributes, Item, Items, character, element, none, more, items_of, count_of, depth_of}
-use Rattle.model_tree.specs.Parts.{TextParts}
+use Rattle.model_tree.specs.Parts.{TextParts, HeadParts}
 use Rattle.model_tree.specs.declared.items.Node.{Node}
 use Rattle.model_tree.specs.Nodes.{characters, items_at, items_in}
 use Rattle.model_tree.proofs.Counts.{count-append, depth-append, count-inner, depth-inner, count-characters, depth-characters}
@@ -17,7 +16,7 @@ use Rattle.breach_definitions.specs.Breach.{Placed, placed_item, placed_inner, p
 use Rattle.breach_definitions.specs.Spots.{lists_path, is_listed, breach_at}
 use Rattle.schema_rules.specs.declared.chosen.Chosen.{Chosen}
 use Rattle.schema_rules.specs.declared.chosen.Chosen.TheVariants.{All}
-use Rattle.schema_rules.specs.Chosen.{is_chosen, Standing, root, AreThere, inside, IsBelow, broken, chosen_breach, breach_from, breach_in}
+use Rattle.schema_rules.specs.Chosen.{is_chosen, Standing, root, AreThere, inside, IsBelow, broken, chosen_breach, breach_from}
 
 or-assoc : {A : Type 0} (a b c : Option A) → option_or (option_or a b) c ≡ option_or a (option_or b c)
 or-assoc None b c = refl
@@ -40,8 +39,8 @@ from_append : (rules : Rules) (chosen : Chosen) (above : Standing) (index : ℕ)
     → breach_from rules chosen above index (xs ++ ys) ≡ option_or (breach_from rules chosen above index xs) (breach_from rules chosen above (index + length xs) ys)
 unfolding breach_from
 from_append rules chosen above index xs ys =
-    ap (first_some (chosen_breach rules chosen)) (placed-append above.names above.path index xs ys)
-    ∙ first_some-append (chosen_breach rules chosen) (placed_inner above.names above.path index (items_of xs)) (placed_inner above.names above.path (index + length xs) (items_of ys))
+    ap (first_some (chosen_breach rules chosen above.path)) (placed-append above.names above.path index xs ys)
+    ∙ first_some-append (chosen_breach rules chosen above.path) (placed_inner above.names above.path index (items_of xs)) (placed_inner above.names above.path (index + length xs) (items_of ys))
 
 pub found_here : (rules : Rules) (chosen : Chosen) (above : Standing) (index : ℕ) (left xs ys : List Item) (found : Rule × List ℕ) → left ≡ xs ++ ys → Some found ≡ breach_from rules chosen above index xs
     → Some found ≡ breach_from rules chosen above index left
@@ -58,7 +57,7 @@ found_behind rules chosen above index next left xs ys e h n =
 
 pub found_nowhere : (rules : Rules) (chosen : Chosen) (above : Standing) (index : ℕ) (left : List Item) → left ≡ [] → None ≡ breach_from rules chosen above index left
 unfolding breach_from
-found_nowhere rules chosen above index left e = ap (λ xs. first_some (chosen_breach rules chosen) (placed_inner above.names above.path index (items_of xs))) (sym e)
+found_nowhere rules chosen above index left e = ap (λ xs. first_some (chosen_breach rules chosen above.path) (placed_inner above.names above.path index (items_of xs))) (sym e)
 
 -- items that are there, and those behind them
 pub there_front : (above : Standing) (index : ℕ) (left xs ys : List Item) → left ≡ xs ++ ys → AreThere above index left → AreThere above index xs
@@ -110,6 +109,10 @@ pub left : {A : Type 0} (old new xs : List A) (x : A) → new ≡ take (length o
 left old new xs x e f =
     e ∙ ap (λ zs. take (length zs - 1) zs) f ∙ (let same : length (xs ++ x ∷ []) - 1 ≡ length xs = omega (arith, length_push xs x) in ap (λ n. take n (xs ++ x ∷ [])) same ∙ take-append_seam xs (x ∷ []))
 
+-- a path as it is seen from the end of the one that it goes on from
+seam : (path rest : List ℕ) → drop (length path) (path ++ rest) ≡ rest
+seam path rest = drop-append_seam path rest
+
 -- characters of equal attributes break the same rule
 abbrev at_text : Rules → Standing → Attributes → ℕ → Option (Rule × List ℕ)
 at_text rules above attributes index = option_map (λ rule. (rule, above.path ++ index ∷ [])) (broken rules above.names (codes "$text") attributes)
@@ -119,9 +122,10 @@ text attributes scalars = map (λ scalar. character scalar attributes) scalars
 
 text-more : (rules : Rules) (chosen : Chosen) (above : Standing) (attributes : Attributes) (index scalar : ℕ) (scalars : List ℕ)
     → breach_from rules chosen above index (text attributes (scalar ∷ scalars))
-    ≡ option_or (if is_chosen chosen (above.path ++ index ∷ []) then at_text rules above attributes index else None) (breach_from rules chosen above (index + 1) (text attributes scalars))
+    ≡ option_or (if is_chosen chosen (index ∷ []) then at_text rules above attributes index else None) (breach_from rules chosen above (index + 1) (text attributes scalars))
 unfolding breach_from broken_rule
-text-more rules chosen above attributes index scalar scalars = refl
+text-more rules chosen above attributes index scalar scalars =
+    ap (λ path. option_or (if is_chosen chosen path then at_text rules above attributes index else None) (breach_from rules chosen above (index + 1) (text attributes scalars))) (seam above.path (index ∷ []))
 
 text-obeys : (rules : Rules) (chosen : Chosen) (above : Standing) (attributes : Attributes) (index : ℕ) (scalars : List ℕ) → broken rules above.names (codes "$text") attributes ≡ None
     → breach_from rules chosen above index (text attributes scalars) ≡ None
@@ -129,22 +133,22 @@ unfolding breach_from
 text-obeys rules chosen above attributes index [] obeys = refl
 text-obeys rules chosen above attributes index (scalar ∷ scalars) obeys =
     text-more rules chosen above attributes index scalar scalars
-    ∙ ap (option_or (if is_chosen chosen (above.path ++ index ∷ []) then at_text rules above attributes index else None)) (text-obeys rules chosen above attributes (index + 1) scalars obeys)
-    ∙ ap (λ (o : Option Rule). option_or {T = Rule × List ℕ} (if is_chosen chosen (above.path ++ index ∷ []) then option_map (λ rule. (rule, above.path ++ index ∷ [])) o else None) None) obeys
-    ∙ go (is_chosen chosen (above.path ++ index ∷ []))
+    ∙ ap (option_or (if is_chosen chosen (index ∷ []) then at_text rules above attributes index else None)) (text-obeys rules chosen above attributes (index + 1) scalars obeys)
+    ∙ ap (λ (o : Option Rule). option_or {T = Rule × List ℕ} (if is_chosen chosen (index ∷ []) then option_map (λ rule. (rule, above.path ++ index ∷ [])) o else None) None) obeys
+    ∙ go (is_chosen chosen (index ∷ []))
   where
     go : (b : Bool) → option_or {T = Rule × List ℕ} (if b then None else None) None ≡ None
     go true = refl
     go false = refl
 
-text-passed : (rules : Rules) (chosen : Chosen) (above : Standing) (attributes : Attributes) (index scalar : ℕ) (scalars : List ℕ) → is_chosen chosen (above.path ++ index ∷ []) ≡ false
+text-passed : (rules : Rules) (chosen : Chosen) (above : Standing) (attributes : Attributes) (index scalar : ℕ) (scalars : List ℕ) → is_chosen chosen (index ∷ []) ≡ false
     → breach_from rules chosen above index (text attributes (scalar ∷ scalars)) ≡ breach_from rules chosen above (index + 1) (text attributes scalars)
 text-passed rules chosen above attributes index scalar scalars e =
     text-more rules chosen above attributes index scalar scalars
     ∙ ap (λ b. option_or (if b then at_text rules above attributes index else None) (breach_from rules chosen above (index + 1) (text attributes scalars))) e
 
 text-untested : (rules : Rules) (chosen : Chosen) (above : Standing) (attributes : Attributes) (index : ℕ) (scalars : List ℕ)
-    → ((i : ℕ) → index ≤ i → i < index + length scalars → is_chosen chosen (above.path ++ i ∷ []) ≡ false) → breach_from rules chosen above index (text attributes scalars) ≡ None
+    → ((i : ℕ) → index ≤ i → i < index + length scalars → is_chosen chosen (i ∷ []) ≡ false) → breach_from rules chosen above index (text attributes scalars) ≡ None
 unfolding breach_from
 text-untested rules chosen above attributes index [] before = refl
 text-untested rules chosen above attributes index (scalar ∷ scalars) before =
@@ -152,13 +156,13 @@ text-untested rules chosen above attributes index (scalar ∷ scalars) before =
     ∙ text-untested rules chosen above attributes (index + 1) scalars (λ i from to. before i (omega arith) (omega arith))
 
 text-first : (rules : Rules) (chosen : Chosen) (above : Standing) (attributes : Attributes) (index : ℕ) (scalars : List ℕ) (gap first : ℕ) → first ≡ index + gap → gap < length scalars
-    → ((i : ℕ) → index ≤ i → i < first → is_chosen chosen (above.path ++ i ∷ []) ≡ false) → is_chosen chosen (above.path ++ first ∷ []) ≡ true
+    → ((i : ℕ) → index ≤ i → i < first → is_chosen chosen (i ∷ []) ≡ false) → is_chosen chosen (first ∷ []) ≡ true
     → breach_from rules chosen above index (text attributes scalars) ≡ at_text rules above attributes first
 text-first rules chosen above attributes index [] gap first e less before there = absurd (omega arith)
 text-first rules chosen above attributes index (scalar ∷ scalars) zero first e less before there =
     let same : index ≡ first = omega arith in
     text-more rules chosen above attributes index scalar scalars
-    ∙ ap (λ i. option_or (if is_chosen chosen (above.path ++ i ∷ []) then at_text rules above attributes i else None) (breach_from rules chosen above (index + 1) (text attributes scalars))) same
+    ∙ ap (λ i. option_or (if is_chosen chosen (i ∷ []) then at_text rules above attributes i else None) (breach_from rules chosen above (index + 1) (text attributes scalars))) same
     ∙ ap (λ b. option_or (if b then at_text rules above attributes first else None) (breach_from rules chosen above (index + 1) (text attributes scalars))) there
     ∙ go (broken rules above.names (codes "$text") attributes) refl
   where
@@ -171,14 +175,16 @@ text-first rules chosen above attributes index (scalar ∷ scalars) (suc gap) fi
     ∙ text-first rules chosen above attributes (index + 1) scalars gap first (omega arith) (omega arith) (λ i from to. before i (omega arith) to) there
 
 pub text_untested : (rules : Rules) (chosen : Chosen) (above : Standing) (index end : ℕ) (parts : TextParts) → end ≡ index + length parts.scalars
-    → ((i : ℕ) → index ≤ i → i < end → is_chosen chosen (above.path ++ i ∷ []) ≡ false) → None ≡ breach_from rules chosen above index (characters parts)
+    → ((i : ℕ) → index ≤ i → i < end → is_chosen chosen (i ∷ []) ≡ false) → None ≡ breach_from rules chosen above index (characters parts)
 text_untested rules chosen above index end parts e before = sym (text-untested rules chosen above parts.attributes index parts.scalars (λ i from to. before i from (omega arith)))
 
-pub text_tested : (rules : Rules) (chosen : Chosen) (above : Standing) (index end first : ℕ) (parts : TextParts) → end ≡ index + length parts.scalars → index ≤ first → first < end
-    → ((i : ℕ) → index ≤ i → i < first → is_chosen chosen (above.path ++ i ∷ []) ≡ false) → is_chosen chosen (above.path ++ first ∷ []) ≡ true
-    → option_map (λ rule. (rule, above.path ++ first ∷ [])) (broken rules above.names (codes "$text") parts.attributes) ≡ breach_from rules chosen above index (characters parts)
-text_tested rules chosen above index end first parts e from to before there =
-    sym (text-first rules chosen above parts.attributes index parts.scalars (first - index) first (omega arith) (omega arith) before there)
+pub text_tested : (rules : Rules) (chosen : Chosen) (above : Standing) (index end first : ℕ) (parts : TextParts) (name : List ℕ) (attributes : Attributes) → name ≡ codes "$text" → attributes ≡ parts.attributes
+    → end ≡ index + length parts.scalars → index ≤ first → first < end → ((i : ℕ) → index ≤ i → i < first → is_chosen chosen (i ∷ []) ≡ false) → is_chosen chosen (first ∷ []) ≡ true
+    → option_map (λ rule. (rule, above.path ++ first ∷ [])) (broken rules above.names name attributes) ≡ breach_from rules chosen above index (characters parts)
+text_tested rules chosen above index end first parts name attributes named given e from to before there =
+    ap (λ n. option_map (λ (rule : Rule). (rule, above.path ++ first ∷ [])) (broken rules above.names n attributes)) named
+    ∙ ap (λ a. at_text rules above a first) given
+    ∙ sym (text-first rules chosen above parts.attributes index parts.scalars (first - index) first (omega arith) (omega arith) before there)
 
 -- an element, and then what is in it
 append-none : {A : Type 0} (xs : List A) → xs ++ [] ≡ xs
@@ -187,13 +193,17 @@ append-none (x ∷ xs) = ap (λ ys. x ∷ ys) (append-none xs)
 
 element-first : (rules : Rules) (chosen : Chosen) (above : Standing) (index id : ℕ) (name : List ℕ) (attributes : Attributes) (children : List Item)
     → breach_from rules chosen above index (element id name attributes (items_of children) ∷ [])
-    ≡ option_or (if is_chosen chosen (above.path ++ index ∷ []) then option_map (λ rule. (rule, above.path ++ index ∷ [])) (broken rules above.names name attributes) else None)
-    (breach_from rules chosen (inside above name index) 0 children)
+    ≡ option_or (if is_chosen chosen (index ∷ []) then option_map (λ rule. (rule, above.path ++ index ∷ [])) (broken rules above.names name attributes) else None)
+    (first_some (chosen_breach rules chosen above.path) (placed_inner (above.names ++ name ∷ []) (above.path ++ index ∷ []) 0 (items_of children)))
 unfolding breach_from broken_rule
 element-first rules chosen above index id name attributes children =
+    let inner = placed_inner (above.names ++ name ∷ []) (above.path ++ index ∷ []) 0 (items_of children) in
     ap
-    (λ placed. option_or (if is_chosen chosen (above.path ++ index ∷ []) then option_map (λ rule. (rule, above.path ++ index ∷ [])) (broken rules above.names name attributes) else None) (first_some (chosen_breach rules chosen) placed))
-    (append-none (placed_inner (above.names ++ name ∷ []) (above.path ++ index ∷ []) 0 (items_of children)))
+    (λ path. option_or (if is_chosen chosen path then option_map (λ rule. (rule, above.path ++ index ∷ [])) (broken rules above.names name attributes) else None) (first_some (chosen_breach rules chosen above.path) (inner ++ [])))
+    (seam above.path (index ∷ []))
+    ∙ ap
+    (λ placed. option_or (if is_chosen chosen (index ∷ []) then option_map (λ rule. (rule, above.path ++ index ∷ [])) (broken rules above.names name attributes) else None) (first_some (chosen_breach rules chosen above.path) placed))
+    (append-none inner)
 
 -- two functions that give the same wherever a path goes on from here
 mutual
@@ -213,33 +223,44 @@ mutual
       ∙ (λ i. option_or (under-item f g names (path ++ index ∷ []) item (λ rest placed e. same index rest placed (e ∙ append_assoc path (index ∷ []) rest)) i) (under-inner f g names path (index + 1) items same i))
       ∙ sym (first_some-append g (placed_item names (path ++ index ∷ []) item) (placed_inner names path (index + 1) items))
 
-none-of : {A B : Type 0} (xs : List A) → first_some {B = B} (λ _. None) xs ≡ None
-none-of [] = refl
-none-of (x ∷ xs) = none-of xs
-
 -- what is tested inside an element
-below-is : (rules : Rules) (chosen : Chosen) (below : Option Chosen) (above : Standing) (name : List ℕ) (index : ℕ) (children : List Item) → IsBelow chosen below above.path index
-    → breach_in rules below (inside above name index) children ≡ breach_from rules chosen (inside above name index) 0 children
+below-is : (rules : Rules) (chosen below : Chosen) (above : Standing) (name : List ℕ) (index : ℕ) (children : List Item) → IsBelow chosen below index
+    → breach_from rules below (inside above name index) 0 children
+    ≡ first_some (chosen_breach rules chosen above.path) (placed_inner (above.names ++ name ∷ []) (above.path ++ index ∷ []) 0 (items_of children))
 unfolding breach_from
-below-is rules chosen None above name index children same =
-    sym (none-of (placed_inner (above.names ++ name ∷ []) (above.path ++ index ∷ []) 0 (items_of children)))
-    ∙ under-inner (λ _. None) (chosen_breach rules chosen) (above.names ++ name ∷ []) (above.path ++ index ∷ []) 0 (items_of children)
-    (λ number rest placed e. ap (λ b. if b then breach_of rules placed else None) (same number rest ∙ ap (is_chosen chosen) (sym (e ∙ append_assoc above.path (index ∷ []) (number ∷ rest)))))
-below-is rules chosen (Some other) above name index children same =
-    under-inner (chosen_breach rules other) (chosen_breach rules chosen) (above.names ++ name ∷ []) (above.path ++ index ∷ []) 0 (items_of children)
-    (λ number rest placed e. ap (λ b. if b then breach_of rules placed else None) (ap (is_chosen other) (e ∙ append_assoc above.path (index ∷ []) (number ∷ rest)) ∙ same number rest ∙ ap (is_chosen chosen) (sym (e ∙ append_assoc above.path (index ∷ []) (number ∷ rest)))))
+below-is rules chosen below above name index children same =
+    under-inner (chosen_breach rules below (above.path ++ index ∷ [])) (chosen_breach rules chosen above.path) (above.names ++ name ∷ []) (above.path ++ index ∷ []) 0 (items_of children)
+    (λ number rest placed e. ap (λ b. if b then breach_of rules placed else None) (
+    ap (λ path. is_chosen below (drop (length (above.path ++ index ∷ [])) path)) e
+    ∙ ap (is_chosen below) (seam (above.path ++ index ∷ []) (number ∷ rest))
+    ∙ same number rest
+    ∙ ap (is_chosen chosen) (sym (ap (drop (length above.path)) (e ∙ append_assoc above.path (index ∷ []) (number ∷ rest)) ∙ seam above.path (index ∷ number ∷ rest)))
+    ))
 
-pub element_is : (rules : Rules) (chosen : Chosen) (below : Option Chosen) (above : Standing) (index id : ℕ) (name : List ℕ) (attributes : Attributes) (children : List Item) (tested : Bool)
-    → tested ≡ is_chosen chosen (above.path ++ index ∷ []) → IsBelow chosen below above.path index
-    → option_or (if tested then option_map (λ rule. (rule, above.path ++ index ∷ [])) (broken rules above.names name attributes) else None) (breach_in rules below (inside above name index) children)
-    ≡ breach_from rules chosen above index (element id name attributes (items_of children) ∷ [])
-element_is rules chosen below above index id name attributes children tested is same =
-    (λ i. option_or (if is i then option_map (λ rule. (rule, above.path ++ index ∷ [])) (broken rules above.names name attributes) else None) (below-is rules chosen below above name index children same i))
-    ∙ sym (element-first rules chosen above index id name attributes children)
+pub element_is : (rules : Rules) (chosen below : Chosen) (above : Standing) (index : ℕ) (head : HeadParts) (name : List ℕ) (children : List Item) (tested : Bool) (own : Option (Rule × List ℕ)) → name ≡ head.name
+    → own ≡ (if tested then option_map (λ rule. (rule, above.path ++ index ∷ [])) (broken rules above.names head.name head.attributes) else None) → tested ≡ is_chosen chosen (index ∷ []) → IsBelow chosen below index
+    → option_or own (breach_from rules below (inside above name index) 0 children) ≡ breach_from rules chosen above index (element head.id head.name head.attributes (items_of children) ∷ [])
+element_is rules chosen below above index head name children tested own named owned is same =
+    ap (λ n. option_or own (breach_from rules below (inside above n index) 0 children)) named
+    ∙ ap (λ first. option_or first (breach_from rules below (inside above head.name index) 0 children)) owned
+    ∙ ap
+    (λ b. option_or (if b then option_map (λ rule. (rule, above.path ++ index ∷ [])) (broken rules above.names head.name head.attributes) else None) (breach_from rules below (inside above head.name index) 0 children))
+    is
+    ∙ ap
+    (option_or (if is_chosen chosen (index ∷ []) then option_map (λ rule. (rule, above.path ++ index ∷ [])) (broken rules above.names head.name head.attributes) else None))
+    (below-is rules chosen below above head.name index children same)
+    ∙ sym (element-first rules chosen above index head.id head.name head.attributes children)
 
-pub none_there : {A : Type 0} (found : Option A) → is_some found ≡ false → found ≡ None
-none_there None e = refl
-none_there (Some x) e = absurd cc
+-- no item is tested
+unchosen : (rules : Rules) (chosen : Chosen) (path : List ℕ) → ((path : List ℕ) → is_chosen chosen path ≡ false) → (xs : List Placed) → None ≡ first_some (chosen_breach rules chosen path) xs
+unchosen rules chosen path untold [] = refl
+unchosen rules chosen path untold (x ∷ xs) =
+    unchosen rules chosen path untold xs
+    ∙ ap (λ b. option_or (if b then breach_of rules x else None) (first_some (chosen_breach rules chosen path) xs)) (sym (untold (drop (length path) x.path)))
+
+pub none_chosen : (rules : Rules) (chosen : Chosen) (above : Standing) (index : ℕ) (items : List Item) → ((path : List ℕ) → is_chosen chosen path ≡ false) → None ≡ breach_from rules chosen above index items
+unfolding breach_from
+none_chosen rules chosen above index items untold = unchosen rules chosen above.path untold (placed_inner above.names above.path index (items_of items))
 
 -- all items, and those that spots list
 pub all_is : (rules : Rules) (items : List Item) → breach_from rules All root 0 items ≡ breach rules items
@@ -247,11 +268,11 @@ unfolding breach_from breach
 all_is rules items = refl
 
 filtered : (rules : Rules) (chosen : Chosen) (spots : List Spot) → ((path : List ℕ) → is_chosen chosen path ≡ list_any (λ spot. lists_path spot path) spots) → (xs : List Placed)
-    → first_some (chosen_breach rules chosen) xs ≡ first_some (breach_of rules) (filter (is_listed spots) xs)
+    → first_some (chosen_breach rules chosen []) xs ≡ first_some (breach_of rules) (filter (is_listed spots) xs)
 filtered rules chosen spots same [] = refl
 filtered rules chosen spots same (x ∷ xs) =
-    ap (λ b. option_or (if b then breach_of rules x else None) (first_some (chosen_breach rules chosen) xs)) (same x.path)
-    ∙ elim (is_listed spots x) as (λ b. option_or (if b then breach_of rules x else None) (first_some (chosen_breach rules chosen) xs) ≡ first_some (breach_of rules) (cond b (x ∷ filter (is_listed spots) xs) (filter (is_listed spots) xs))) [
+    ap (λ b. option_or (if b then breach_of rules x else None) (first_some (chosen_breach rules chosen []) xs)) (same x.path)
+    ∙ elim (is_listed spots x) as (λ b. option_or (if b then breach_of rules x else None) (first_some (chosen_breach rules chosen []) xs) ≡ first_some (breach_of rules) (cond b (x ∷ filter (is_listed spots) xs) (filter (is_listed spots) xs))) [
       | true ↦ ap (option_or (breach_of rules x)) (filtered rules chosen spots same xs)
       | false ↦ filtered rules chosen spots same xs
     ]

@@ -23,24 +23,25 @@ impl Schema {
     pub fn first_breach(&self, tree: &Tree) -> Result<Option<(Rule, Path)>, NoMemory>
         ensures { IfOk result (λ found. found ≡ breach self.now tree.now) }
     {
-        self.first_chosen(tree, Chosen::All)
+        self.first_chosen(tree, &Chosen::All)
     }
 
     /// The same among the items that spots list, each item with the ancestors that it has in the tree. Which other items break a rule doesn't
-    /// matter. Only elements that spots list or lead into are gone into, and there each node is compared with each spot.
+    /// matter. Only elements in which spots list something are gone into, and there each node is compared with the spots that do.
     pub fn breach_at(&self, tree: &Tree, spots: &[Spot]) -> Result<Option<(Rule, Path)>, NoMemory>
         ensures { IfOk result (λ found. found ≡ breach_at self.now tree.now spots.now) }
     {
-        self.first_chosen(tree, Chosen::Listed(spots))
+        let chosen = Chosen::listed(tree.items().allocator(), spots)?;
+        self.first_chosen(tree, &chosen)
     }
 
     /// The first breach among the items that are tested.
     fn first_chosen(
         &self,
         tree: &Tree,
-        chosen: Chosen<'_>,
+        chosen: &Chosen<'_>,
     ) -> Result<Option<(Rule, Path)>, NoMemory>
-        ensures { IfOk result (λ found. found ≡ breach_from self.now chosen.entry root 0 tree.now) }
+        ensures { IfOk result (λ found. found ≡ breach_from self.now chosen.now root 0 tree.now) }
     {
         let items = tree.items();
         let alloc = items.allocator();

@@ -6,7 +6,7 @@ ghost use Rattle.item_definitions.specs.Item.{count_of, depth_of, element, items
 ghost use Rattle.model_tree.specs.Nodes.{items_at, items_in, characters};
 ghost use Rattle.schema_definitions.specs.Allowed.{check_child, check_attribute};
 ghost use Rattle.breach_definitions.specs.Breach.{last_name};
-ghost use Rattle.schema_rules.specs.Chosen.{Standing, AreThere, is_chosen, inside, last_passes, broken, breach_from, breach_in};
+ghost use Rattle.schema_rules.specs.Chosen.{Standing, AreThere, is_chosen, inside, last_passes, broken, breach_from};
 
 use crate::above::Above;
 use crate::chosen::Chosen;
@@ -140,7 +140,7 @@ impl<'a> Walk<'a> {
     /// The first breach among the characters of a text that are tested.
     fn breach_of_text(
         &self,
-        chosen: Chosen<'_>,
+        chosen: &Chosen<'_>,
         above: &Above,
         passing: bool,
         index: u32,
@@ -148,10 +148,10 @@ impl<'a> Walk<'a> {
     ) -> Result<Option<(Rule, Path)>, NoMemory>
         requires passing { passing ≡ last_passes self.now.schema.now above.now.names }
         requires there { AreThere above.now index (characters text.now) }
-        ensures { IfOk result (λ found. found ≡ breach_from self.now.schema.now chosen.entry above.now index (characters text.now)) }
+        ensures { IfOk result (λ found. found ≡ breach_from self.now.schema.now chosen.now above.now index (characters text.now)) }
     {
         let end = index + text.len() as u32;
-        let first = chosen.first(above.path(), index, end);
+        let first = chosen.first(index, end);
         if first == end {
             return Ok(None);
         }
@@ -184,7 +184,7 @@ impl<'a> Walk<'a> {
     #[cycle(breaches)]
     fn breach_of_element(
         &self,
-        chosen: Chosen<'_>,
+        chosen: &Chosen<'_>,
         above: &mut Above,
         passing: bool,
         index: u32,
@@ -193,11 +193,11 @@ impl<'a> Walk<'a> {
     ) -> Result<Option<(Rule, Path)>, NoMemory>
         requires passing { passing ≡ last_passes self.now.schema.now above.old.names }
         requires there { AreThere above.old index (element head.now.id head.now.name head.now.attributes (items_of children.now) ∷ []) }
-        ensures found { IfOk result (λ found. found ≡ breach_from self.now.schema.now chosen.entry above.old index (element head.now.id head.now.name head.now.attributes (items_of children.now) ∷ [])) }
+        ensures found { IfOk result (λ found. found ≡ breach_from self.now.schema.now chosen.now above.old index (element head.now.id head.now.name head.now.attributes (items_of children.now) ∷ [])) }
         ensures back { OnOk result (above.new ≡ above.old) }
     {
-        let tested = chosen.has(above.path(), index);
-        let below = chosen.below(above.path(), index);
+        let tested = chosen.has(index);
+        let below = chosen.inside(index)?;
         if !tested && below.is_none() {
             return Ok(None);
         }
@@ -213,7 +213,7 @@ impl<'a> Walk<'a> {
     #[cycle(breaches)]
     fn breach_inside(
         &self,
-        chosen: Option<Chosen<'_>>,
+        chosen: Chosen<'_>,
         above: &mut Above,
         passing: bool,
         index: u32,
@@ -222,14 +222,14 @@ impl<'a> Walk<'a> {
     ) -> Result<Option<(Rule, Path)>, NoMemory>
         requires passing { passing ≡ last_passes self.now.schema.now (inside above.old name.now index).names }
         requires there { AreThere (inside above.old name.now index) 0 children.now }
-        ensures found { IfOk result (λ found. found ≡ breach_in self.now.schema.now chosen.entry (inside above.old name.now index) children.now) }
+        ensures found { IfOk result (λ found. found ≡ breach_from self.now.schema.now chosen.entry (inside above.old name.now index) 0 children.now) }
         ensures back { OnOk result (above.new ≡ above.old) }
     {
-        let Some(chosen) = chosen else {
+        if chosen.is_none() {
             return Ok(None);
-        };
+        }
         above.enter(name, index)?;
-        let found = self.breach_below(chosen, above, passing, children)?;
+        let found = self.breach_below(&chosen, above, passing, children)?;
         above.leave();
         Ok(found)
     }
@@ -238,14 +238,14 @@ impl<'a> Walk<'a> {
     #[cycle(breaches)]
     pub fn breach_below(
         &self,
-        chosen: Chosen<'_>,
+        chosen: &Chosen<'_>,
         above: &mut Above,
         passing: bool,
         items: &Items,
     ) -> Result<Option<(Rule, Path)>, NoMemory>
         requires passing { passing ≡ last_passes self.now.schema.now above.old.names }
         requires there { AreThere above.old 0 items.now }
-        ensures found { IfOk result (λ found. found ≡ breach_from self.now.schema.now chosen.entry above.old 0 items.now) }
+        ensures found { IfOk result (λ found. found ≡ breach_from self.now.schema.now chosen.now above.old 0 items.now) }
         ensures back { OnOk result (above.new ≡ above.old) }
     {
         let mut index: u32 = 0;
@@ -262,7 +262,7 @@ impl<'a> Walk<'a> {
     #[cycle(breaches)]
     fn breach_of_node(
         &self,
-        chosen: Chosen<'_>,
+        chosen: &Chosen<'_>,
         above: &mut Above,
         passing: bool,
         index: u32,
@@ -270,7 +270,7 @@ impl<'a> Walk<'a> {
     ) -> Result<Option<(Rule, Path)>, NoMemory>
         requires passing { passing ≡ last_passes self.now.schema.now above.old.names }
         requires there { AreThere above.old index (items_at node.now) }
-        ensures found { IfOk result (λ found. found ≡ breach_from self.now.schema.now chosen.entry above.old index (items_at node.now)) }
+        ensures found { IfOk result (λ found. found ≡ breach_from self.now.schema.now chosen.now above.old index (items_at node.now)) }
         ensures back { OnOk result (above.new ≡ above.old) }
     {
         match node {

@@ -1,15 +1,14 @@
-use Rattle.std.proofs.Common.{◌≡◌, ◌+◌, ◌++◌, [], ◌∷◌, false, refl, not, drop, ap, sym, ◌∙◌, subst, arith}
+use Rattle.std.proofs.Common.{◌≡◌, Some, None, ◌+◌, false, refl, drop, ap, sym, ◌∙◌, subst, arith}
 use Rattle.std.specs.Prelude.{IfOk}
-use Rattle.std.specs.Option.{option_or}
 use Rattle.std.proofs.lemmas.List.{drop_all}
 use Rattle.item_definitions.specs.Item.{depth_of}
 use Rattle.model_tree.specs.Nodes.{items_at, items_in}
 use Rattle.model_tree.proofs.Counts.{depth-append, depth-inner}
 use Rattle.model_tree.proofs.Steps.{from_on}
 use Rattle.schema_definitions.specs.Allowed.{check_child}
-use Rattle.schema_rules.specs.Chosen.{AreThere, IsBelow, is_chosen, inside, last_passes, breach_in, breach_from}
+use Rattle.schema_rules.specs.Chosen.{AreThere, inside, last_passes, breach_from}
 use Rattle.schema_rules.proofs.Standing.{passes_inside}
-use Rattle.schema_rules.proofs.Placing.{found_here, found_behind, found_nowhere, there_front, there_behind, there_long, there_inside, dropped, none_there, element_is}
+use Rattle.schema_rules.proofs.Placing.{found_here, found_behind, found_nowhere, there_front, there_behind, there_long, there_inside, dropped, none_chosen, element_is}
 use Rattle.schema_rules.proofs.walk.Walk.+breaches.Goals as goal
 
 pub breach_below-breach_of_node-requires : goal.breach_below-breach_of_node-requires
@@ -32,8 +31,8 @@ breach_below-returns-in-Some-clause-found t c =
     let nodes = c.deref-node-items.result.now in
     let index = c.loop-node.node-index in
     let next = from_on nodes nodes index c.node-item.result refl (omega arith) c.node-item.is in
-    found_here c.args.self.now.schema.now c.args.chosen c.args.above.now c.loop-node.index (items_in (drop index nodes)) (items_at c.node-item.result) (items_in (drop (index + 1) nodes)) c.in-Some.breach next
-    (sym c.in-Some.is ∙ c.in_ok-breach.ensures.found ∙ ap (λ above. breach_from c.args.self.now.schema.now c.args.chosen above c.loop-node.index (items_at c.node-item.result)) c.loop-node.invariant.back)
+    found_here c.args.self.now.schema.now c.args.chosen.now c.args.above.now c.loop-node.index (items_in (drop index nodes)) (items_at c.node-item.result) (items_in (drop (index + 1) nodes)) c.in-Some.breach next
+    (sym c.in-Some.is ∙ c.in_ok-breach.ensures.found ∙ ap (λ above. breach_from c.args.self.now.schema.now c.args.chosen.now above c.loop-node.index (items_at c.node-item.result)) c.loop-node.invariant.back)
     ∙ c.loop-node.invariant.found
 
 pub breach_below-overflow_cast-index : goal.breach_below-overflow_cast-index
@@ -61,28 +60,23 @@ breach_below-loop-node-preserved t c =
       back = c.in_ok-breach.ensures.back ∙ c.loop-node.invariant.back;
       there = there_behind c.args.above.now c.loop-node.index (c.loop-node.index + c.len.result) (items_in (drop index nodes)) (items_at c.node-item.result) (items_in (drop (index + 1) nodes)) next c.loop-node.invariant.there
           (ap (λ n. c.loop-node.index + n) c.len.ensures);
-      found = found_behind c.args.self.now.schema.now c.args.chosen c.args.above.now c.loop-node.index (c.loop-node.index + c.len.result) (items_in (drop index nodes)) (items_at c.node-item.result) (items_in (drop (index + 1) nodes)) next
-          (sym c.in-None.is ∙ c.in_ok-breach.ensures.found ∙ ap (λ above. breach_from c.args.self.now.schema.now c.args.chosen above c.loop-node.index (items_at c.node-item.result)) c.loop-node.invariant.back)
+      found = found_behind c.args.self.now.schema.now c.args.chosen.now c.args.above.now c.loop-node.index (c.loop-node.index + c.len.result) (items_in (drop index nodes)) (items_at c.node-item.result) (items_in (drop (index + 1) nodes)) next
+          (sym c.in-None.is ∙ c.in_ok-breach.ensures.found ∙ ap (λ above. breach_from c.args.self.now.schema.now c.args.chosen.now above c.loop-node.index (items_at c.node-item.result)) c.loop-node.invariant.back)
           (ap (λ n. c.loop-node.index + n) c.len.ensures)
           ∙ c.loop-node.invariant.found;
     }
 
 pub breach_below-returns-clause-found : goal.breach_below-returns-clause-found
 breach_below-returns-clause-found t c =
-    found_nowhere c.args.self.now.schema.now c.args.chosen c.args.above.now c.loop-node.index (items_in (drop c.loop-node.node-index c.deref-node-items.result.now))
+    found_nowhere c.args.self.now.schema.now c.args.chosen.now c.args.above.now c.loop-node.index (items_in (drop c.loop-node.node-index c.deref-node-items.result.now))
     (ap items_in (drop_all c.loop-node.node-index c.deref-node-items.result.now (omega arith)))
     ∙ c.loop-node.invariant.found
 
 pub breach_of_element-returns-then-is_none-clause-found : goal.breach_of_element-returns-then-is_none-clause-found
 breach_of_element-returns-then-is_none-clause-found t c =
-    let rules = c.args.self.now.schema.now in
-    let above = c.args.above.now in
-    let head = c.args.head.now in
-    let tested = sym c.if-not-tested.true ∙ c.has-tested.ensures ∙ ap (λ path. is_chosen c.args.chosen (path ++ c.args.index ∷ [])) c.path.ensures in
-    let below = subst (λ path. IsBelow c.args.chosen c.below-below.result path c.args.index) c.path-2.ensures c.below-below.ensures in
-    let none = none_there c.below-below.result (c.is_none.ensures ∙ ap not c.if-is_none.true) in
-    ap (λ below. breach_in rules below (inside above head.name c.args.index) c.args.children.now) (sym none)
-    ∙ element_is rules c.args.chosen c.below-below.result above c.args.index head.id head.name head.attributes c.args.children.now false tested below
+    let name = c.args.head.now.name in
+    none_chosen c.args.self.now.schema.now c.in_ok-below.below (inside c.args.above.now name c.args.index) 0 c.args.children.now (c.is_none.ensures c.if-is_none.true)
+    ∙ element_is c.args.self.now.schema.now c.args.chosen.now c.in_ok-below.below c.args.above.now c.args.index c.args.head.now name c.args.children.now false None refl refl (sym c.if-not-tested.true ∙ c.has-tested.ensures) c.in_ok-below.ensures
 
 pub breach_of_element-breach_inside-requires : goal.breach_of_element-breach_inside-requires
 breach_of_element-breach_inside-requires t c =
@@ -98,25 +92,14 @@ breach_of_element-breach_inside-requires t c =
 
 pub breach_of_element-returns-in-Some-clause-found : goal.breach_of_element-returns-in-Some-clause-found
 breach_of_element-returns-in-Some-clause-found t c =
-    let rules = c.args.self.now.schema.now in
-    let above = c.args.above.now in
-    let head = c.args.head.now in
-    let tested = c.has-tested.ensures ∙ ap (λ path. is_chosen c.args.chosen (path ++ c.args.index ∷ [])) c.path.ensures in
-    let below = subst (λ path. IsBelow c.args.chosen c.below-below.result path c.args.index) c.path-2.ensures c.below-below.ensures in
-    ap (λ first. option_or first (breach_in rules c.below-below.result (inside above head.name c.args.index) c.args.children.now)) (sym c.in-Some.is ∙ c.in_ok-breach.ensures)
-    ∙ element_is rules c.args.chosen c.below-below.result above c.args.index head.id head.name head.attributes c.args.children.now c.has-tested.result tested below
+    element_is c.args.self.now.schema.now c.args.chosen.now c.in_ok-below.below c.args.above.now c.args.index c.args.head.now c.args.head.now.name c.args.children.now c.has-tested.result (Some c.in-Some.breach) refl
+    (sym c.in-Some.is ∙ c.in_ok-breach.ensures) c.has-tested.ensures c.in_ok-below.ensures
 
 pub breach_of_element-returns-in-None-clause-found : goal.breach_of_element-returns-in-None-clause-found
 breach_of_element-returns-in-None-clause-found t c =
-    let rules = c.args.self.now.schema.now in
-    let above = c.args.above.now in
-    let head = c.args.head.now in
-    let tested = c.has-tested.ensures ∙ ap (λ path. is_chosen c.args.chosen (path ++ c.args.index ∷ [])) c.path.ensures in
-    let below = subst (λ path. IsBelow c.args.chosen c.below-below.result path c.args.index) c.path-2.ensures c.below-below.ensures in
     subst (λ wanted. IfOk c.breach_inside.result (λ found. found ≡ wanted))
-    (ap (λ name. breach_in rules c.below-below.result (inside above name c.args.index) c.args.children.now) c.name-name.ensures
-    ∙ ap (λ first. option_or first (breach_in rules c.below-below.result (inside above head.name c.args.index) c.args.children.now)) (sym c.in-None.is ∙ c.in_ok-breach.ensures)
-    ∙ element_is rules c.args.chosen c.below-below.result above c.args.index head.id head.name head.attributes c.args.children.now c.has-tested.result tested below)
+    (element_is c.args.self.now.schema.now c.args.chosen.now c.in_ok-below.below c.args.above.now c.args.index c.args.head.now c.name-name.result.now c.args.children.now c.has-tested.result None c.name-name.ensures
+    (sym c.in-None.is ∙ c.in_ok-breach.ensures) c.has-tested.ensures c.in_ok-below.ensures)
     c.breach_inside.ensures.found
 
 pub breach_of_node-breach_of_element-requires : goal.breach_of_node-breach_of_element-requires
@@ -124,3 +107,7 @@ breach_of_node-breach_of_element-requires t c = (
   omega (arith, c.decreases, ap (λ node. depth_of (items_at node)) c.in-Element.is, depth-inner c.in-Element.children),
   (c.requires.passing, subst (λ node. AreThere c.args.above.now c.args.index (items_at node)) c.in-Element.is c.requires.there),
 )
+
+pub breach_inside-returns-then-is_none-clause-found : goal.breach_inside-returns-then-is_none-clause-found
+breach_inside-returns-then-is_none-clause-found t c =
+    none_chosen c.args.self.now.schema.now c.args.chosen (inside c.args.above.now c.args.name.now c.args.index) 0 c.args.children.now (c.is_none.ensures c.if-is_none.true)

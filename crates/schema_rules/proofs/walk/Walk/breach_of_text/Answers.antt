@@ -1,6 +1,5 @@
-use Rattle.std.proofs.Common.{◌≡◌, ◌+◌, ◌++◌, [], ◌∷◌, codes, option_map, ap, sym, ◌∙◌, subst, arith}
+use Rattle.std.proofs.Common.{◌≡◌, ◌+◌, ap, subst, arith}
 use Rattle.std.specs.Prelude.{IfOk}
-use Rattle.schema_rules.specs.Chosen.{is_chosen, broken}
 use Rattle.schema_rules.proofs.Placing.{text_fits, text_short, text_untested, text_tested}
 use Rattle.schema_rules.proofs.walk.Walk.breach_of_text.Goals as goal
 
@@ -12,8 +11,8 @@ overflow_add-end c = omega (arith, text_fits c.args.above.now c.args.index c.arg
 
 pub returns-then-first-end : goal.returns-then-first-end
 returns-then-first-end c =
-    text_untested c.args.self.now.schema.now c.args.chosen c.args.above.now c.args.index (c.args.index + c.len.result) c.args.text.now (ap (λ n. c.args.index + n) c.len.ensures)
-    (λ i low high. ap (λ path. is_chosen c.args.chosen (path ++ i ∷ [])) (sym c.path.ensures) ∙ c.first-first.ensures.before i low (omega arith))
+    text_untested c.args.self.now.schema.now c.args.chosen.now c.args.above.now c.args.index (c.args.index + c.len.result) c.args.text.now (ap (λ n. c.args.index + n) c.len.ensures)
+    (λ i low high. c.first-first.ensures.before i low (omega arith))
 
 pub breach_here-requires-clause-short : goal.breach_here-requires-clause-short
 breach_here-requires-clause-short c = text_short c.args.above.now c.args.index c.args.text.now c.requires.there (omega (arith, c.len.ensures))
@@ -21,9 +20,6 @@ breach_here-requires-clause-short c = text_short c.args.above.now c.args.index c
 pub returns : goal.returns
 returns c =
     subst (λ wanted. IfOk c.breach_here.result (λ found. found ≡ wanted))
-    (ap (λ text. option_map (λ rule. (rule, c.args.above.now.path ++ c.first-first.result ∷ [])) (broken c.args.self.now.schema.now c.args.above.now.names text c.attrs.result.now)) c.args.self.now.is_text
-    ∙ ap (λ attributes. option_map (λ rule. (rule, c.args.above.now.path ++ c.first-first.result ∷ [])) (broken c.args.self.now.schema.now c.args.above.now.names (codes "$text") attributes)) c.attrs.ensures
-    ∙ text_tested c.args.self.now.schema.now c.args.chosen c.args.above.now c.args.index (c.args.index + c.len.result) c.first-first.result c.args.text.now (ap (λ n. c.args.index + n) c.len.ensures) (omega arith) (omega arith)
-    (λ i low high. ap (λ path. is_chosen c.args.chosen (path ++ i ∷ [])) (sym c.path.ensures) ∙ c.first-first.ensures.before i low high)
-    (ap (λ path. is_chosen c.args.chosen (path ++ c.first-first.result ∷ [])) (sym c.path.ensures) ∙ c.first-first.ensures.there (omega arith)))
+    (text_tested c.args.self.now.schema.now c.args.chosen.now c.args.above.now c.args.index (c.args.index + c.len.result) c.first-first.result c.args.text.now c.args.self.now.text c.attrs.result.now c.args.self.now.is_text
+    c.attrs.ensures (ap (λ n. c.args.index + n) c.len.ensures) (omega arith) (omega arith) c.first-first.ensures.before (c.first-first.ensures.there (omega arith)))
     c.breach_here.ensures
