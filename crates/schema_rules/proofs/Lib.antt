@@ -8,3 +8,6 @@ mod Finding
 mod KnownNames
 mod Ends
 mod Told
+mod Nearing
+mod Placing
+mod Standing

@@ -7,3 +7,4 @@ pub mod Refused
 pub mod Compiled
 pub mod Keys
 pub mod Flags
+pub mod Chosen

@@ -1,9 +1,14 @@
-//! The compiled schema: tables that answer what may stand where, which attributes an item may have, and what an item is. (After
-//! `Schema` of CKEditor 5's engine.)
+//! The compiled schema: tables that answer what may stand where, which attributes an item may have, and what an item is; and the first
+//! item of a document that breaks it. (After `Schema` of CKEditor 5's engine; that a document is tested is this project's own.)
 #![tactic(auto)]
 
+mod above;
+pub mod breaches;
 mod checks;
+mod chosen;
 pub mod compile;
+#[cfg(test)]
+mod document_tests;
 mod flags;
 mod graph;
 mod known;
@@ -16,3 +21,4 @@ mod steps;
 mod tables;
 #[cfg(test)]
 mod tests;
+mod walk;

@@ -11,7 +11,7 @@ use schema_definitions::names::Names;
 use std::alloc::{AllocError, Global};
 
 /// The name that a text is.
-fn name_of(alloc: Global, text: &str) -> Result<Name, NoMemory>
+pub(crate) fn name_of(alloc: Global, text: &str) -> Result<Name, NoMemory>
     requires { is_name text.now ≡ true }
     ensures { IfOk result (λ name. name ≡ text.now) }
 {

@@ -6,6 +6,7 @@ ghost use Rattle.schema_definitions.specs.Compiled.{needed_by};
 ghost use Rattle.schema_definitions.specs.Rules.{stands_in, may_have, has_flag};
 ghost use Rattle.schema_definitions.specs.Allowed.{is_block, is_inline, is_object, is_limit, is_selectable, is_content, is_registered, passes, check_child, check_attribute, allowed_above, allowed_parent, registered, inline_objects};
 ghost use Rattle.schema_rules.specs.Refused.{is_unknown};
+ghost use Rattle.schema_rules.specs.Chosen.{last_passes};
 
 use crate::checks::{attribute_answer, child_answer};
 use crate::flags::{FlagMarks, all_flags};
@@ -202,6 +203,21 @@ impl Schema {
         match child_answer(self.checks.as_slice(), ancestors, item) {
             Some(answer) => answer,
             None => self.stands_in(item, parent) && self.passes(above, parent),
+        }
+    }
+
+    /// Whether an item may stand behind these ancestors, where it is known whether the last of them passes itself.
+    #[tactic(auto, using(crate::proofs::Standing::stands), unfolding(schema_definitions::specs::Allowed::check_child))]
+    pub(crate) fn may_stand(&self, ancestors: &[Name], passing: bool, item: &Name) -> bool
+        requires { passing ≡ last_passes self.now ancestors.now }
+        ensures { result ≡ check_child self.now ancestors.now item.now }
+    {
+        let Some((parent, _)) = ancestors.split_last() else {
+            return false;
+        };
+        match child_answer(self.checks.as_slice(), ancestors, item) {
+            Some(answer) => answer,
+            None => passing && self.stands_in(item, parent),
         }
     }
 

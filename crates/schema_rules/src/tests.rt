@@ -65,7 +65,7 @@ fn sample_file(alloc: Global, item: &str, other: &str, last: &[&str]) -> Result<
 }
 
 /// The schema of the sample.
-fn sample(alloc: Global) -> Result<Schema, Fail> {
+pub fn sample(alloc: Global) -> Result<Schema, Fail> {
     let file = sample_file(alloc, "heading", "paragraph", &["quote", "quote"])?;
     compile(alloc, &file).map_err(|_| Fail::from("refused"))
 }

@@ -1,0 +1,179 @@
+//! Documents against a schema, as tables, and the two calls with ample memory.
+ghost use Rattle.std.specs.Prelude.{◌<◌};
+
+use crate::schema::Schema;
+use crate::tests::sample;
+use breach_definitions::spot::Spot;
+use ck_base::attributes::Attrs;
+use ck_base::faults::Rule;
+use ck_base::name::Name;
+use ck_base::path::Path;
+use ck_base::value::Value;
+use model_tree::id::ElementId;
+use model_tree::items::Items;
+use model_tree::tree::Tree;
+use std::alloc::Global;
+use std::test::Fail;
+
+/// Attributes with one key, or none for the empty text.
+fn attrs(alloc: Global, key: &str) -> Result<Attrs, Fail> {
+    let mut attrs = Attrs::new(alloc);
+    if !key.is_empty() {
+        attrs.set(Name::read(alloc, key)?, Value::Truth(true))?;
+    }
+    Ok(attrs)
+}
+
+/// An element of this name with one key, or none.
+fn element(alloc: Global, name: &str, key: &str, children: Items) -> Result<Items, Fail> {
+    let name = Name::read(alloc, name)?;
+    let attrs = attrs(alloc, key)?;
+    Ok(Items::element(alloc, ElementId::new(1), name, attrs, children)?)
+}
+
+/// Elements of these names, each in the one before it, round these items.
+fn nested(alloc: Global, names: &[&str], inner: Items) -> Result<Items, Fail> {
+    let Some((name, rest)) = names.split_first() else {
+        return Ok(inner);
+    };
+    let children = nested(alloc, rest, inner)?;
+    element(alloc, name, "", children)
+}
+
+/// The tree of these items.
+fn tree_of(items: Items) -> Result<Tree, Fail> {
+    if items.count() < 4_294_967_296 && items.depth() <= 64 {
+        Ok(Tree::from_items(items))
+    } else {
+        Err(Fail::new("too large"))
+    }
+}
+
+/// The text of a breach: the rule's kind, its two names and the path.
+fn breach_text(alloc: Global, found: Option<(Rule, Path)>) -> Result<String, Fail> {
+    let Some((rule, path)) = found else {
+        return Ok("none".to_string(alloc)?);
+    };
+    let path = path.as_slice();
+    match rule {
+        Rule::Child { item, parent } => { Ok(format!(in alloc; "child {item} {parent} {path:?}")?) }
+        Rule::Attribute { key, item } => {
+            Ok(format!(in alloc; "attribute {key} {item} {path:?}")?)
+        }
+    }
+}
+
+/// What elements of these names, each in the one before it, break with a text `ab` in the last; the text has one key, or none.
+fn chain(alloc: Global, schema: &Schema, names: &[&str], key: &str) -> Result<String, Fail> {
+    let inner = Items::text(alloc, "ab", &attrs(alloc, key)?)?;
+    let tree = tree_of(nested(alloc, names, inner)?)?;
+    breach_text(alloc, schema.first_breach(&tree)?)
+}
+
+/// Whether the rows on elements in elements hold.
+fn chains_hold(alloc: Global, schema: &Schema) -> Result<bool, Fail> {
+    Ok(
+        chain(alloc, schema, &["quote", "quote", "paragraph"], "")?.as_str() == "none"
+            && chain(alloc, schema, &["quote", "quote", "quote", "mention"], "")?.as_str()
+                == "child quote quote [0, 0, 0]"
+            && chain(alloc, schema, &[], "")?.as_str() == "child $text $root [0]"
+            && chain(alloc, schema, &["paragraph"], "id")?.as_str() == "attribute id $text [0, 0]"
+            && chain(alloc, schema, &["image"], "id")?.as_str() == "child $text image [0, 0]",
+    )
+}
+
+#[test]
+fn tells_the_first_breach(rt: HostRuntime) -> Result<(), Fail> {
+    let schema = sample(rt.alloc())?;
+    assert!(rt; chains_hold(rt.alloc(), &schema)?);
+    Ok(())
+}
+
+/// A paragraph that has a key it may not have and one that it may, with a text; an image with a text that it may not have; a paragraph with a
+/// text that has a key.
+fn three_blocks(alloc: Global) -> Result<Tree, Fail> {
+    let plain = Items::text(alloc, "ab", &attrs(alloc, "")?)?;
+    let marked = Items::text(alloc, "cd", &attrs(alloc, "id")?)?;
+    let mut items = element(alloc, "paragraph", "bold", plain.copy()?)?;
+    items.append(element(alloc, "image", "id", plain.copy()?)?)?;
+    let mut mixed = plain;
+    mixed.append(marked)?;
+    items.append(element(alloc, "paragraph", "id", mixed)?)?;
+    tree_of(items)
+}
+
+/// The run of a parent.
+fn run(alloc: Global, parent: &[u32], start: u32, end: u32) -> Result<Spot, Fail> {
+    match Path::from_slice(alloc, parent) {
+        Some(parent) => Ok(Spot::Run { parent, start, end }),
+        None => Err(Fail::new("no path")),
+    }
+}
+
+/// The element at a path, with all that is in it.
+fn subtree(alloc: Global, path: &[u32]) -> Result<Spot, Fail> {
+    match Path::from_slice(alloc, path) {
+        Some(path) => Ok(Spot::Subtree(path)),
+        None => Err(Fail::new("no path")),
+    }
+}
+
+/// What the three blocks break among what two spots list.
+fn at_spots(
+    alloc: Global,
+    schema: &Schema,
+    tree: &Tree,
+    first: Spot,
+    second: Spot,
+) -> Result<String, Fail> {
+    let mut spots = Vec::new(alloc);
+    spots.push(first)?;
+    spots.push(second)?;
+    breach_text(alloc, schema.breach_at(tree, spots.as_slice())?)
+}
+
+/// Whether the rows on spots hold.
+fn spots_hold(alloc: Global, schema: &Schema, tree: &Tree) -> Result<bool, Fail> {
+    let run_and_run = at_spots(
+        alloc,
+        schema,
+        tree,
+        run(alloc, &[], 1, 3)?,
+        run(alloc, &[2], 0, 2)?,
+    )?;
+    let run_in_text = at_spots(
+        alloc,
+        schema,
+        tree,
+        run(alloc, &[2], 1, 4)?,
+        run(alloc, &[1], 2, 2)?,
+    )?;
+    let two_subtrees = at_spots(
+        alloc,
+        schema,
+        tree,
+        subtree(alloc, &[2])?,
+        subtree(alloc, &[1])?,
+    )?;
+    let all = at_spots(
+        alloc,
+        schema,
+        tree,
+        run(alloc, &[0], 0, 2)?,
+        run(alloc, &[], 0, 3)?,
+    )?;
+    Ok(
+        run_and_run.as_str() == "none"
+            && run_in_text.as_str() == "attribute id $text [2, 2]"
+            && two_subtrees.as_str() == "child $text image [1, 0]"
+            && all.as_str() == "attribute bold paragraph [0]",
+    )
+}
+
+#[test]
+fn tells_the_first_breach_at_spots(rt: HostRuntime) -> Result<(), Fail> {
+    let schema = sample(rt.alloc())?;
+    let tree = three_blocks(rt.alloc())?;
+    assert!(rt; spots_hold(rt.alloc(), &schema, &tree)?);
+    Ok(())
+}
