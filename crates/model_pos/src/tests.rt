@@ -1,6 +1,9 @@
 //! Each public call once, at worked examples.
 ghost use Rattle.std.specs.Prelude.{◌≡◌, ◌<◌, ◌≤◌, ℕ, List, Some, length, IsTrue};
-ghost use Rattle.item_definitions.specs.Position.{not_after};
+ghost use Rattle.item_definitions.specs.Position.{between, not_after};
+ghost use Rattle.item_definitions.specs.Shift as meant;
+ghost use Rattle.item_definitions.specs.Shift.{IsWithinLimits, IsShift, carried_ends};
+ghost use Rattle.model_pos.specs.Shifts.{shift_of};
 
 use crate::carried::{carry, carry_range};
 use crate::parts::{Counts, flat_parts};
@@ -9,6 +12,7 @@ use crate::shifts::{Shift, Stick};
 use ck_base::path::Path;
 use std::alloc::Global;
 use std::cmp::Ordering;
+use std::process::Abort;
 use std::test::Fail;
 
 /// A tree in which each element has so many items.
@@ -47,6 +51,7 @@ fn range(alloc: Global, start: &[u32], end: &[u32]) -> Range
     requires ordered { IsTrue (not_after start.now end.now) }
     requires end_some { 0 < length end.now }
     requires end_short { length end.now ≤ 65 }
+    ensures { result ≡ between start.now end.now }
 {
     Range::new(at(alloc, start), at(alloc, end))
 }
@@ -99,4 +104,103 @@ fn carried(rt: HostRuntime) {
         carry(&position, Stick::ToNext, &split).as_slice(),
         [2, 1].as_slice()
     );
+}
+
+/// A range is carried to another one.
+fn carries(rt: &impl Abort, range: &Range, shift: &Shift, wanted: &Range)
+    requires start { IsWithinLimits (carried_ends (shift_of shift.now) range.now).start }
+    requires end { IsWithinLimits (carried_ends (shift_of shift.now) range.now).end }
+    requires shift { IsShift (shift_of shift.now) }
+{
+    let carried = carry_range(range, shift);
+    assert_eq!(rt; carried.start().as_slice(), wanted.start().as_slice());
+    assert_eq!(rt; carried.end().as_slice(), wanted.end().as_slice());
+}
+
+/// The insertion of two items.
+fn insertion(alloc: Global, numbers: &[u32]) -> Shift
+    requires some { 0 < length numbers.now }
+    requires short { length numbers.now ≤ 65 }
+    ensures { shift_of result ≡ meant.insert numbers.now 2 }
+{
+    Shift::Insert {
+        at: at(alloc, numbers),
+        count: 2,
+    }
+}
+
+/// The removal of some items.
+fn removal(alloc: Global, numbers: &[u32], count: u32) -> Shift
+    requires some { 0 < length numbers.now }
+    requires short { length numbers.now ≤ 65 }
+    ensures { shift_of result ≡ meant.remove numbers.now count }
+{
+    Shift::Remove {
+        at: at(alloc, numbers),
+        count,
+    }
+}
+
+/// Ranges around two items that come in, and some that go.
+#[test]
+fn carried_ranges(rt: HostRuntime) {
+    let a = rt.alloc();
+    let some = range(a, &[0, 1], &[0, 3]);
+    let none = range(a, &[0, 1], &[0, 1]);
+    let start = insertion(a, &[0, 1]);
+    carries(&rt, &some, &start, &range(a, &[0, 3], &[0, 5]));
+    carries(&rt, &none, &start, &range(a, &[0, 3], &[0, 3]));
+    carries(
+        &rt,
+        &some,
+        &insertion(a, &[0, 3]),
+        &range(a, &[0, 1], &[0, 3]),
+    );
+    carries(
+        &rt,
+        &some,
+        &removal(a, &[0, 2], 5),
+        &range(a, &[0, 1], &[0, 2]),
+    );
+    carries(&rt, &some, &removal(a, &[0], 1), &range(a, &[0], &[0]));
+    carries(&rt, &some, &Shift::Stay, &some);
+}
+
+/// Ranges in a run that moves, at its edge, and partly in it.
+#[test]
+fn carried_runs(rt: HostRuntime) {
+    let a = rt.alloc();
+    let shift = Shift::Move {
+        from: at(a, &[0, 1]),
+        count: 2,
+        to: at(a, &[2]),
+    };
+    let whole = range(a, &[0, 1], &[0, 3]);
+    carries(&rt, &whole, &shift, &range(a, &[2], &[4]));
+    let edge = range(a, &[0, 1], &[0, 1]);
+    carries(&rt, &edge, &shift, &edge);
+    let part = range(a, &[0, 0], &[0, 2]);
+    carries(&rt, &part, &shift, &range(a, &[0, 0], &[0, 1]));
+}
+
+/// Ranges around an element that is split, and one that is merged.
+#[test]
+fn carried_halves(rt: HostRuntime) {
+    let a = rt.alloc();
+    let some = range(a, &[0, 1], &[0, 3]);
+    let start = Shift::Split { at: at(a, &[0, 1]) };
+    carries(&rt, &some, &start, &range(a, &[1, 0], &[1, 2]));
+    let end = Shift::Split { at: at(a, &[0, 3]) };
+    carries(&rt, &some, &end, &some);
+    let Some(right) = Path::from_slice(a, &[1]) else {
+        unreachable!();
+    };
+    let merge = Shift::Merge {
+        right,
+        target: at(a, &[0, 4]),
+    };
+    let both = range(a, &[0, 1], &[1, 2]);
+    carries(&rt, &both, &merge, &range(a, &[0, 1], &[0, 6]));
+    let around = range(a, &[1], &[2]);
+    carries(&rt, &around, &merge, &range(a, &[0, 4], &[1]));
 }
