@@ -67,3 +67,9 @@ module _ (cells : List (List Item)) (number : ℕ) where
 
   pub fill_next : (items : List Item) → length cells ≤ number → cells ++ items ∷ [] ≡ fill cells number items
   fill_next items most = (let no : nat_lt number (length cells) ≡ false = grind (arith, nat_tests) in sym (ap (λ t. if t then set cells number items else cells ++ items ∷ []) no))
+
+-- a cell that isn't there can't be emptied
+pub set_none : (cells : List (List Item)) (number : ℕ) (items : List Item) → length cells ≤ number → cells ≡ set cells number items
+set_none [] number items most = refl
+set_none (cell ∷ cells) zero items most = absurd (omega arith)
+set_none (cell ∷ cells) (suc number) items most = ap (λ rest. cell ∷ rest) (set_none cells number items (omega arith))

@@ -88,6 +88,20 @@ impl Cells {
         Ok(())
     }
 
+    /// Empties a cell, if it is there. It answers `NoMemory` alone beside Ok, and then nothing has changed.
+    #[tactic(auto, using(crate::proofs::InCells::set_none))]
+    pub fn empty(&mut self, number: u64) -> Result<(), NoMemory>
+        ensures ok { OnOk result (self.new ≡ set self.old number []) }
+        ensures err { OnErr result (self.new ≡ self.old) }
+    {
+        let index = number as usize;
+        if index < self.cells.len() {
+            let none = Items::new(*self.cells.allocator())?;
+            self.cells[index] = none;
+        }
+        Ok(())
+    }
+
     /// The same cells. It answers `NoMemory` alone beside Ok.
     pub fn copy(&self) -> Result<Cells, NoMemory>
         ensures { IfOk result (λ cells. cells ≡ self.now) }

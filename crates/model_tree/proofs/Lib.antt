@@ -19,3 +19,4 @@ pub mod Removed
 pub mod Moving
 pub mod Depths
 pub mod OneValue
+pub mod Ordered

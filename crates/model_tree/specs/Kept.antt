@@ -2,7 +2,9 @@
 use Rattle.model_tree.specs.declared.items.Items.TheInside.{Inside}
 use Rattle.model_tree.specs.Nodes.{items_in, IsNormal}
 use Rattle.model_tree.specs.Sizes.{AreSizes}
+use Rattle.operation_definitions.specs.Reversed.{AreOrdered}
 
 pub record IsKept (inside : Inside) : Type 0 where
   pub normal : IsNormal inside.nodes.value.items
   pub sizes : AreSizes (items_in inside.nodes.value.items) inside.sizes.long inside.sizes.count inside.sizes.depth
+  pub ordered : AreOrdered (items_in inside.nodes.value.items)

@@ -4,6 +4,7 @@ ghost use Rattle.model_tree.specs.Nodes.{items_at, items_in, IsNormal};
 ghost use Rattle.model_tree.specs.Sizes.{AreSizes};
 ghost use Rattle.item_definitions.specs.Item.{character, element, items_of, count_of, depth_of};
 ghost use Rattle.std.specs.Str.{chars};
+ghost use Rattle.operation_definitions.specs.Reversed.{AreOrdered};
 ghost use Rattle.operation_definitions.specs.Level.{given};
 
 use crate::id::ElementId;
@@ -186,10 +187,11 @@ impl Items {
         *self.nodes.allocator()
     }
 
-    /// Its nodes.
+    /// Its nodes. The keys of each item are in order.
     pub fn nodes(&self) -> &Vec<Node>
         ensures items { items_in result.now.items ≡ self.now }
         ensures normal { IsNormal result.now.items }
+        ensures ordered { AreOrdered self.now }
     {
         &self.nodes
     }
@@ -322,13 +324,15 @@ impl Node {
         }
     }
 
-    /// The sizes of the list of its items.
-    #[tactic(auto, using(crate::proofs::Counts::text_sizes, crate::proofs::Counts::element_sizes))]
+    /// The sizes of the list of its items, whose keys are in order.
+    #[tactic(auto, using(crate::proofs::Counts::text_sizes, crate::proofs::Counts::element_sizes, crate::proofs::Ordered::text_ordered, crate::proofs::Ordered::element_ordered))]
     pub(crate) fn sizes(&self) -> Sizes
-        ensures { AreSizes (items_at self.now) result.long result.count result.depth }
+        ensures sizes { AreSizes (items_at self.now) result.long result.count result.depth }
+        ensures ordered { AreOrdered (items_at self.now) }
     {
         match self {
             Node::Run(text) => {
+                let _pairs = text.attrs().entries();
                 let long = text.len() as u64;
                 Sizes {
                     long,
@@ -336,11 +340,14 @@ impl Node {
                     depth: if long == 0 { 0 } else { 1 },
                 }
             }
-            Node::Element(_, children) => Sizes {
-                long: 1,
-                count: children.sizes.count.saturating_add(1),
-                depth: children.sizes.depth.saturating_add(1),
-            },
+            Node::Element(head, children) => {
+                let _pairs = head.attrs().entries();
+                Sizes {
+                    long: 1,
+                    count: children.sizes.count.saturating_add(1),
+                    depth: children.sizes.depth.saturating_add(1),
+                }
+            }
         }
     }
 }

@@ -3,6 +3,7 @@ ghost use Rattle.std.specs.Prelude.{◌≡◌, ◌<◌, ◌≤◌, ◌+◌, ◌+
 ghost use Rattle.model_tree.specs.Nodes.{items_at, items_in, Join, IsNormal};
 ghost use Rattle.model_tree.specs.Sizes.{AreSizes};
 ghost use Rattle.operation_definitions.specs.Level.{given};
+ghost use Rattle.operation_definitions.specs.Reversed.{AreOrdered};
 
 use crate::items::Node;
 use crate::sizes::Sizes;
@@ -123,10 +124,11 @@ pub(crate) fn add_rest(
     Ok(())
 }
 
-/// The sizes of the list that nodes stand for.
+/// The sizes of the list that nodes stand for, in which the keys of each item are in order.
 #[tactic(auto, using(crate::proofs::Counts::sizes_append))]
 pub(crate) fn sizes_of(nodes: &Vec<Node>) -> Sizes
-    ensures { AreSizes (items_in nodes.now.items) result.long result.count result.depth }
+    ensures ordered { AreOrdered (items_in nodes.now.items) }
+    ensures sizes { AreSizes (items_in nodes.now.items) result.long result.count result.depth }
 {
     let mut sizes = Sizes::none();
     for node in nodes {
