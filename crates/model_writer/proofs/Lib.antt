@@ -1,0 +1,13 @@
+pub mod Tests
+pub mod Inserted
+pub mod Named
+pub mod Made
+pub mod Drawn
+pub mod Welcome
+pub mod Numbered
+pub mod Unknown
+pub mod Given
+pub mod Joined
+pub mod Removed
+pub mod Depths
+pub mod Spelled
