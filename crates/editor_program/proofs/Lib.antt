@@ -1,3 +1,4 @@
 pub mod FirstLine
 pub mod Words
 pub mod Sending
+pub mod Starting

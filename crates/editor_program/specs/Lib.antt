@@ -1,4 +1,6 @@
 pub mod Sent
 pub mod Status
+pub mod Asked
 pub mod Ends
+pub mod Unopened
 pub mod Unanswered

@@ -1,11 +1,13 @@
-//! `ckcore run SCRIPT`: reads a script, inserts text into one paragraph, and shows the model and the view.
+//! `ckcore run SETTINGS SCRIPT`: reads a settings file and a script, and answers the script's lines. `ckcore check SETTINGS` tells whether
+//! settings are accepted.
 #![tactic(auto)]
 
+mod answering;
 mod lines;
-mod paragraph;
+mod opening;
 mod printing;
-mod reading;
 pub mod run;
+mod tasks;
 #[cfg(test)]
 mod tests;
 

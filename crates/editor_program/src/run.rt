@@ -1,33 +1,43 @@
 //! The top call: from the words of the command line to the bytes written and the status.
-ghost use Rattle.std.specs.Prelude.{◌≡◌, ◌≢◌, ◌≤◌, ◌⊎◌, ℕ, List, [], true, Option, Some, None, map, option_map, string_bytes, length, IfErr, IfSome, IsSomeAnd, OnOk, OnErr};
+ghost use Rattle.std.specs.Prelude.{◌≡◌, ◌≢◌, ◌<◌, ◌≤◌, ◌+◌, ◌⊎◌, true, false, None, map, string_bytes, length, IfErr, IfSome, OnOk};
 ghost use Rattle.std.specs.Io.KnownBytes.{append_known};
 ghost use Rattle.ck_io.specs.Rose.{Rose};
+ghost use Rattle.editor_core.specs.Edited.{most_changes};
 ghost use Rattle.editor_program.specs.Sent.{SendsFront};
-ghost use Rattle.editor_program.specs.Ends.{IsOutcome, ShowsUsage, IsMissing};
+ghost use Rattle.editor_program.specs.Ends.{IsOutcome, ShowsUsage, IsNotHeld, IsMissing, IsMissingFor};
 ghost use Rattle.editor_program.specs.Unanswered.{SendsPart, Fails};
+ghost use Rattle.editor_program.specs.Unopened.{IsEnd, IsTold};
 ghost use Rattle.editor_program.specs.Status.{status_code, is_status};
+ghost use Rattle.editor_program.specs.Asked.{task_view};
 ghost use Rattle.machine_definitions.specs.Lines.{lines_of};
-ghost use Rattle.machine_definitions.specs.Output.{answer, answers, is_file_name, script_named, usage, most_script_bytes, output};
+ghost use Rattle.program_definitions.specs.Machine.{answer, answers};
+ghost use Rattle.program_definitions.specs.Task.{task_of};
+ghost use Rattle.program_definitions.specs.Output.{Outcome, accepted_settings, done_with, most_script_bytes, output, script_outcome, task_outcome, usage};
 
+use crate::answering::answer;
 use crate::lines::split_line;
-use crate::paragraph::Paragraph;
+use crate::opening::{Unopened, open_settings};
+use crate::tasks::{Task, task_of};
 use ck_io::{FetchFault, Files, Sink, WholeFault, write_whole};
+use editor_core::Editor;
 use std::alloc::Global;
 
 /// How a run ends.
 #[derive(Clone, Copy, Debug, PartialEq, Eq)]
 pub enum Status {
-    /// The script was read to its end, and all answers were written.
+    /// The script was read to its end, or the settings were checked, and all was written.
     Finished,
+    /// The settings are refused, or the document that they start with.
+    Refused,
     /// The words are of no form, and the usage line was written.
     BadWords,
     /// Memory ran out.
     NoMemory,
-    /// The script isn't held, or its fetch failed.
+    /// A file isn't held, or its fetch failed.
     NotFetched,
     /// A write failed.
     NotWritten,
-    /// The script has more bytes than a script may have.
+    /// A file has more bytes than it may have.
     TooLarge,
 }
 
@@ -38,6 +48,7 @@ impl Status {
     {
         match self {
             Status::Finished => 0,
+            Status::Refused => 1,
             Status::BadWords => 2,
             Status::NoMemory => 3,
             Status::NotFetched => 4,
@@ -50,43 +61,15 @@ impl Status {
 /// The most bytes that a script may have.
 const MOST_SCRIPT_BYTES: u64 = 67_108_864;
 
-/// The script's name, where the words are the program's name, `run` and a name that isn't empty and doesn't begin with `-`.
-#[tactic(auto, using(crate::proofs::Words::three_words, crate::proofs::Words::other_words))]
-fn script_name(words: &[String]) -> Option<&str>
-    ensures { option_map (λ name. name.now) result ≡ script_named (map string_bytes words.now) }
+/// Writes a text in one piece, and answers whether all of it was written.
+fn tell<S: Sink>(out: &mut S, text: &[u8]) -> bool
+    ensures told { result ≡ true → S.written out.new ≡ append_known (S.written out.old) text.now }
+    ensures part { SendsFront (S.written out.old) (S.written out.new) text.now }
+    ensures failed { result ≡ false → Rose (S.faults out.old) (S.faults out.new) }
 {
-    if words.len() != 3 {
-        return None;
-    }
-    let script = words[2].as_str();
-    if words[1].as_str() == "run" && is_file_name(script) {
-        Some(script)
-    } else {
-        None
-    }
-}
-
-/// Whether a word can name a file: it isn't empty and doesn't begin with `-`.
-fn is_file_name(word: &str) -> bool
-    ensures { result ≡ is_file_name word.now }
-{
-    match word.as_bytes().first() {
-        Some(byte) => *byte != b'-',
-        None => false,
-    }
-}
-
-/// Writes the usage line, in one piece.
-#[tactic(auto, unfolding(machine_definitions::specs::Output::usage))]
-fn show_usage<S: Sink>(out: &mut S) -> Status
-    ensures shown { result ≡ Status.BadWords → S.written out.new ≡ append_known (S.written out.old) usage }
-    ensures part { SendsFront (S.written out.old) (S.written out.new) usage }
-    ensures failed { result ≡ Status.NotWritten → Rose (S.faults out.old) (S.faults out.new) }
-    ensures statuses { (result ≡ Status.BadWords) ⊎ (result ≡ Status.NotWritten) }
-{
-    match write_whole(out, b"usage: ckcore run SCRIPT\n") {
-        Ok(()) => Status::BadWords,
-        Err(_) => Status::NotWritten,
+    match write_whole(out, text) {
+        Ok(()) => true,
+        Err(_) => false,
     }
 }
 
@@ -102,20 +85,23 @@ enum Unanswered {
 /// Answers one line, in one piece.
 fn answer_line<S: Sink>(
     alloc: Global,
-    paragraph: &mut Paragraph,
+    editor: &mut Editor,
     number: u64,
     line: &[u8],
     out: &mut S,
 ) -> Result<(), Unanswered>
+    requires { editor.old.accepted < most_changes }
     ensures written { OnOk result (S.written out.new
-        ≡ append_known (S.written out.old) (answer paragraph.old number line.now).text) }
-    ensures paragraph { OnOk result (paragraph.new ≡ (answer paragraph.old number line.now).paragraph) }
+        ≡ append_known (S.written out.old) (answer editor.old.rules editor.old.state number line.now).text) }
+    ensures state { OnOk result (editor.new.state ≡ (answer editor.old.rules editor.old.state number line.now).state) }
+    ensures rules { OnOk result (editor.new.rules ≡ editor.old.rules) }
+    ensures accepted { OnOk result (editor.new.accepted ≤ editor.old.accepted + 1) }
     ensures calm { OnOk result (S.faults out.new ≡ S.faults out.old) }
     ensures part { IfErr result (λ fault.
-        SendsPart fault (S.written out.old) (S.written out.new) (answer paragraph.old number line.now).text) }
+        SendsPart fault (S.written out.old) (S.written out.new) (answer editor.old.rules editor.old.state number line.now).text) }
     ensures failed { IfErr result (λ fault. Fails fault (S.faults out.old) (S.faults out.new)) }
 {
-    let Ok(text) = paragraph.answer(alloc, number, line) else {
+    let Ok(text) = answer(alloc, editor, number, line) else {
         return Err(Unanswered::NoMemory);
     };
     match write_whole(out, text.as_bytes()) {
@@ -125,20 +111,20 @@ fn answer_line<S: Sink>(
 }
 
 /// Answers the lines of a script in order, each answer in one piece.
-fn answer_lines<S: Sink>(alloc: Global, script: &[u8], out: &mut S) -> Status
-    requires { length script.now ≤ most_script_bytes }
+fn answer_lines<S: Sink>(alloc: Global, editor: &mut Editor, script: &[u8], out: &mut S) -> Status
+    requires fresh { editor.old.accepted ≡ 0 }
+    requires short { length script.now ≤ most_script_bytes }
     ensures finished { result ≡ Status.Finished
-        → S.written out.new ≡ append_known (S.written out.old) (answers [] 1 (lines_of script.now)) }
-    ensures part { SendsFront (S.written out.old) (S.written out.new) (answers [] 1 (lines_of script.now)) }
+        → S.written out.new ≡ append_known (S.written out.old) (answers editor.old.rules editor.old.state 1 (lines_of script.now)) }
+    ensures part { SendsFront (S.written out.old) (S.written out.new) (answers editor.old.rules editor.old.state 1 (lines_of script.now)) }
     ensures failed { result ≡ Status.NotWritten → Rose (S.faults out.old) (S.faults out.new) }
     ensures statuses { (result ≡ Status.Finished) ⊎ (result ≡ Status.NoMemory) ⊎ (result ≡ Status.NotWritten) }
 {
-    let mut paragraph = Paragraph::new(alloc);
     let mut number = 1u64;
     let mut rest = script;
     while !rest.is_empty() {
         let (line, after) = split_line(rest);
-        match answer_line(alloc, &mut paragraph, number, line, out) {
+        match answer_line(alloc, editor, number, line, out) {
             Ok(()) => {}
             Err(Unanswered::NoMemory) => return Status::NoMemory,
             Err(Unanswered::NotWritten(_)) => return Status::NotWritten,
@@ -149,18 +135,157 @@ fn answer_lines<S: Sink>(alloc: Global, script: &[u8], out: &mut S) -> Status
     Status::Finished
 }
 
-/// Runs the program: reads the script that the words name, answers its lines in order, and answers the status.
+/// Answers the script of a name.
+fn answer_script<F: Files, S: Sink>(
+    alloc: Global,
+    editor: &mut Editor,
+    script: &str,
+    files: &mut F,
+    out: &mut S,
+) -> Status
+    requires { editor.old.accepted ≡ 0 }
+    ensures output { IfSome (F.holds files.old) (λ held. result ≢ Status.NoMemory → result ≢ Status.NotWritten
+        → (result ≡ Status.NotFetched → ¬ Rose (F.faults files.old) (F.faults files.new))
+        → IsOutcome (S.written out.old) (S.written out.new) (status_code result) (script_outcome editor.old.rules editor.old.state (held script.now))) }
+    ensures part { IfSome (F.holds files.old) (λ held.
+        SendsFront (S.written out.old) (S.written out.new) (script_outcome editor.old.rules editor.old.state (held script.now)).bytes) }
+    ensures not_fetched { result ≡ Status.NotFetched → S.written out.new ≡ S.written out.old }
+    ensures missing { result ≡ Status.NotFetched → ¬ Rose (F.faults files.old) (F.faults files.new) → IsNotHeld (F.holds files.old) script.now }
+    ensures not_written { result ≡ Status.NotWritten → Rose (S.faults out.old) (S.faults out.new) }
+    ensures too_large { result ≡ Status.TooLarge → S.written out.new ≡ S.written out.old }
+    ensures words { result ≢ Status.BadWords }
+{
+    match files.fetch(alloc, script, MOST_SCRIPT_BYTES) {
+        Ok(bytes) => answer_lines(alloc, editor, bytes.as_slice(), out),
+        Err(FetchFault::NoMemory) => Status::NoMemory,
+        Err(FetchFault::TooLarge) => Status::TooLarge,
+        Err(FetchFault::Missing | FetchFault::Failed) => Status::NotFetched,
+    }
+}
+
+/// Ends a run in which no editor was opened: refused settings are told.
+fn end<S: Sink>(fault: Unopened, out: &mut S) -> Status
+    ensures output { (outcome : Outcome) → IsEnd fault outcome → result ≢ Status.NoMemory → result ≢ Status.NotWritten
+        → IsOutcome (S.written out.old) (S.written out.new) (status_code result) outcome }
+    ensures part { (outcome : Outcome) → IsTold fault outcome → SendsFront (S.written out.old) (S.written out.new) outcome.bytes }
+    ensures not_fetched { result ≡ Status.NotFetched → (fault ≡ Unopened.NotFetched) × (S.written out.new ≡ S.written out.old) }
+    ensures fetched { fault ≡ Unopened.NotFetched → result ≡ Status.NotFetched }
+    ensures not_written { result ≡ Status.NotWritten → Rose (S.faults out.old) (S.faults out.new) }
+    ensures too_large { result ≡ Status.TooLarge → S.written out.new ≡ S.written out.old }
+    ensures words { result ≢ Status.BadWords }
+{
+    match fault {
+        Unopened::NoMemory => Status::NoMemory,
+        Unopened::NotFetched => Status::NotFetched,
+        Unopened::TooLarge => Status::TooLarge,
+        Unopened::Refused(text) => {
+            if tell(out, text.as_bytes()) {
+                Status::Refused
+            } else {
+                Status::NotWritten
+            }
+        }
+    }
+}
+
+/// Tells that settings are accepted.
+#[tactic(auto, unfolding(program_definitions::specs::Output::accepted_settings))]
+fn accept_settings<S: Sink>(out: &mut S) -> Status
+    ensures told { result ≢ Status.NotWritten → (result ≡ Status.Finished) × (S.written out.new ≡ append_known (S.written out.old) accepted_settings) }
+    ensures part { SendsFront (S.written out.old) (S.written out.new) accepted_settings }
+    ensures not_written { result ≡ Status.NotWritten → Rose (S.faults out.old) (S.faults out.new) }
+{
+    if tell(out, b"settings ok\n") {
+        Status::Finished
+    } else {
+        Status::NotWritten
+    }
+}
+
+/// Writes the usage line, in one piece.
+#[tactic(auto, unfolding(program_definitions::specs::Output::usage))]
+fn show_usage<S: Sink>(out: &mut S) -> Status
+    ensures told { result ≢ Status.NotWritten → (result ≡ Status.BadWords) × (S.written out.new ≡ append_known (S.written out.old) usage) }
+    ensures part { SendsFront (S.written out.old) (S.written out.new) usage }
+    ensures not_written { result ≡ Status.NotWritten → Rose (S.faults out.old) (S.faults out.new) }
+{
+    if tell(out, b"usage: ckcore run SETTINGS SCRIPT | check SETTINGS\n") {
+        Status::BadWords
+    } else {
+        Status::NotWritten
+    }
+}
+
+/// Does what the words ask for with an opened editor.
+fn go_on<F: Files, S: Sink>(
+    alloc: Global,
+    editor: &mut Editor,
+    task: Task<'_>,
+    files: &mut F,
+    out: &mut S,
+) -> Status
+    requires { editor.old.accepted ≡ 0 }
+    ensures output { IfSome (F.holds files.old) (λ held. result ≢ Status.NoMemory → result ≢ Status.NotWritten
+        → (result ≡ Status.NotFetched → ¬ Rose (F.faults files.old) (F.faults files.new))
+        → IsOutcome (S.written out.old) (S.written out.new) (status_code result) (done_with held (task_view task.entry) editor.old.rules editor.old.state)) }
+    ensures part { IfSome (F.holds files.old) (λ held.
+        SendsFront (S.written out.old) (S.written out.new) (done_with held (task_view task.entry) editor.old.rules editor.old.state).bytes) }
+    ensures not_fetched { result ≡ Status.NotFetched → S.written out.new ≡ S.written out.old }
+    ensures missing { result ≡ Status.NotFetched → ¬ Rose (F.faults files.old) (F.faults files.new) → IsMissingFor (F.holds files.old) (task_view task.entry) }
+    ensures not_written { result ≡ Status.NotWritten → Rose (S.faults out.old) (S.faults out.new) }
+    ensures too_large { result ≡ Status.TooLarge → S.written out.new ≡ S.written out.old }
+    ensures words { result ≢ Status.BadWords }
+{
+    match task {
+        Task::Run { script, .. } => answer_script(alloc, editor, script, files, out),
+        Task::Check { .. } => accept_settings(out),
+    }
+}
+
+/// Lets an editor go, with which a run has ended so.
+fn let_go(editor: Editor, status: Status) -> Status
+    ensures { result ≡ status }
+{
+    let _ = editor;
+    status
+}
+
+/// Does what the words ask for.
+fn run_task<F: Files, S: Sink>(alloc: Global, task: Task<'_>, files: &mut F, out: &mut S) -> Status
+    ensures output { IfSome (F.holds files.old) (λ held. result ≢ Status.NoMemory → result ≢ Status.NotWritten
+        → (result ≡ Status.NotFetched → ¬ Rose (F.faults files.old) (F.faults files.new))
+        → IsOutcome (S.written out.old) (S.written out.new) (status_code result) (task_outcome held (task_view task.entry))) }
+    ensures part { IfSome (F.holds files.old) (λ held.
+        SendsFront (S.written out.old) (S.written out.new) (task_outcome held (task_view task.entry)).bytes) }
+    ensures not_fetched { result ≡ Status.NotFetched → S.written out.new ≡ S.written out.old }
+    ensures missing { result ≡ Status.NotFetched → ¬ Rose (F.faults files.old) (F.faults files.new) → IsMissingFor (F.holds files.old) (task_view task.entry) }
+    ensures not_written { result ≡ Status.NotWritten → Rose (S.faults out.old) (S.faults out.new) }
+    ensures too_large { result ≡ Status.TooLarge → S.written out.new ≡ S.written out.old }
+    ensures words { result ≢ Status.BadWords }
+{
+    match open_settings(alloc, task.settings(), files) {
+        Ok(mut editor) => {
+            let status = go_on(alloc, &mut editor, task, files, out);
+            let_go(editor, status)
+        }
+        Err(fault) => end(fault, out),
+    }
+}
+
+/// Runs the program: opens the editor of the settings file that the words name, answers the lines of the script in order, and answers the
+/// status.
 ///
 /// | Status | When |
 /// |---|---|
-/// | 0 | the script was read to its end, and all answers were written |
+/// | 0 | the script was read to its end, or the settings were checked, and all was written |
+/// | 1 | the settings are refused, or the document that they start with, and this was written |
 /// | 2 | the words are of no form, and the usage line was written |
 /// | 3 | memory ran out |
-/// | 4 | the script isn't held, or its fetch failed |
+/// | 4 | a file that the words name isn't held, or a fetch failed |
 /// | 5 | a write failed |
-/// | 6 | the script has more than 67,108,864 bytes |
+/// | 6 | the settings have more than 1,048,576 bytes, or the script more than 67,108,864 |
 ///
-/// The bytes and the status are those of the definition `output`, a machine on plain lists of characters.
+/// The bytes and the status are those of the definition `output`, a machine on plain trees.
 pub fn run<F: Files, S: Sink>(alloc: Global, words: &[String], files: &mut F, out: &mut S) -> u8
     // Where it is told what is held: unless memory ran out or a call failed, the status and the bytes are the machine's.
     ensures output { IfSome (F.holds files.old) (λ held. result ≢ 3 → result ≢ 5
@@ -176,9 +301,9 @@ pub fn run<F: Files, S: Sink>(alloc: Global, words: &[String], files: &mut F, ou
 
     // Whatever the files and the sink tell, each status has its cause.
     ensures bad_words { result ≡ 2 → ShowsUsage (S.written out.old) (S.written out.new) (map string_bytes words.now) }
-    ensures words { script_named (map string_bytes words.now) ≡ None → (result ≡ 2) ⊎ (result ≡ 5) }
+    ensures words { task_of (map string_bytes words.now) ≡ None → (result ≡ 2) ⊎ (result ≡ 5) }
     ensures missing { result ≡ 4 → ¬ Rose (F.faults files.old) (F.faults files.new)
-        → IsMissing (F.holds files.old) (script_named (map string_bytes words.now)) }
+        → IsMissing (F.holds files.old) (task_of (map string_bytes words.now)) }
     ensures not_fetched { result ≡ 4 → S.written out.new ≡ S.written out.old }
     ensures not_written { result ≡ 5 → Rose (S.faults out.old) (S.faults out.new) }
     ensures too_large { result ≡ 6 → S.written out.new ≡ S.written out.old }
@@ -201,21 +326,16 @@ fn run_words<F: Files, S: Sink>(
     ensures part { IfSome (F.holds files.old) (λ held.
         SendsFront (S.written out.old) (S.written out.new) (output (map string_bytes words.now) held).bytes) }
     ensures bad_words { result ≡ Status.BadWords → ShowsUsage (S.written out.old) (S.written out.new) (map string_bytes words.now) }
-    ensures words { script_named (map string_bytes words.now) ≡ None
+    ensures words { task_of (map string_bytes words.now) ≡ None
         → (result ≡ Status.BadWords) ⊎ (result ≡ Status.NotWritten) }
     ensures not_fetched { result ≡ Status.NotFetched → S.written out.new ≡ S.written out.old }
     ensures missing { result ≡ Status.NotFetched → ¬ Rose (F.faults files.old) (F.faults files.new)
-        → IsMissing (F.holds files.old) (script_named (map string_bytes words.now)) }
+        → IsMissing (F.holds files.old) (task_of (map string_bytes words.now)) }
     ensures not_written { result ≡ Status.NotWritten → Rose (S.faults out.old) (S.faults out.new) }
     ensures too_large { result ≡ Status.TooLarge → S.written out.new ≡ S.written out.old }
 {
-    let Some(script) = script_name(words) else {
-        return show_usage(out);
-    };
-    match files.fetch(alloc, script, MOST_SCRIPT_BYTES) {
-        Ok(bytes) => answer_lines(alloc, bytes.as_slice(), out),
-        Err(FetchFault::NoMemory) => Status::NoMemory,
-        Err(FetchFault::TooLarge) => Status::TooLarge,
-        Err(FetchFault::Missing | FetchFault::Failed) => Status::NotFetched,
+    match task_of(words) {
+        Some(task) => run_task(alloc, task, files, out),
+        None => show_usage(out),
     }
 }

@@ -1,6 +1,3 @@
 pub mod Lines
-pub mod Request
-pub mod Paragraph
 pub mod Texts
 pub mod Refusals
-pub mod Output

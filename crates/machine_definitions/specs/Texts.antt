@@ -1,4 +1,4 @@
--- The printed texts of the model, of the view, and of the answers' parts.
+-- The escapes of printed texts, and printed paths.
 use Rattle.std.specs.Prelude.{ℕ, List, [], ◌∷◌, ◌++◌, ◌==◌, ◌||◌, Bool, nat_lt, if◌then◌else◌, codes, encode_utf8}
 use Rattle.std.specs.List.{flat_map}
 use Rattle.std.specs.Fmt.{decimal}
@@ -40,11 +40,3 @@ separated (n ∷ rest) = decimal n ++ flat_map (λ m. 44 ∷ decimal m) rest
 -- a path or position
 abbrev pub printed_path : List ℕ → List ℕ
 printed_path numbers = 91 ∷ separated numbers ++ 93 ∷ []
-
--- the model: one paragraph
-unfoldable pub model_text : List ℕ → List ℕ
-model_text paragraph = codes "<paragraph>" ++ (printed_text paragraph ++ codes "</paragraph>")
-
--- the view: the paragraph as the container `p`
-unfoldable pub view_text : List ℕ → List ℕ
-view_text paragraph = codes "<p>" ++ (printed_text paragraph ++ codes "</p>")

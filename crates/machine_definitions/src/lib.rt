@@ -1,6 +1,5 @@
-//! What the program means: the lines of a script, the requests that they make, the machine that answers them, the printed
-//! texts, and the whole output. Code stands only where a law or a worked example is computed.
+//! The lines of a script, the escapes of printed texts, and the printed texts of refusals, as definitions in `specs/`. It has no program code:
+//! each function here is a worked example, which its clauses state.
 #![tactic(auto)]
 
 pub mod examples;
-pub mod request;

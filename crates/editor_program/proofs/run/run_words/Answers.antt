@@ -1,10 +1,11 @@
-use Rattle.std.proofs.Common.{map, string_bytes}
-use Rattle.machine_definitions.specs.Output.{output}
-use Rattle.editor_program.proofs.Sending.{sends_nothing}
+use Rattle.std.proofs.Common.{IfSome, subst, ap, sym, ◌∙◌, option_map}
+use Rattle.program_definitions.specs.Output.{outcome_of}
+use Rattle.editor_program.specs.Sent.{SendsFront}
+use Rattle.editor_program.specs.Asked.{task_view}
 use Rattle.editor_program.proofs.run.run_words.Goals as goal
 
-pub returns-in-Err-NoMemory-clause-part : goal.returns-in-Err-NoMemory-clause-part
-returns-in-Err-NoMemory-clause-part g c = sends_nothing (g.S.Sink.written c.args.out.now) (g.F.Files.holds c.args.files.now) (λ held. (output (map string_bytes c.args.words.now) held).bytes)
-
-pub returns-in-Err-Missing-clause-part : goal.returns-in-Err-Missing-clause-part
-returns-in-Err-Missing-clause-part g c = sends_nothing (g.S.Sink.written c.args.out.now) (g.F.Files.holds c.args.files.now) (λ held. (output (map string_bytes c.args.words.now) held).bytes)
+pub returns-in-Some-clause-part : goal.returns-in-Some-clause-part
+returns-in-Some-clause-part g c =
+    subst (λ asked. IfSome (g.F.Files.holds c.args.files.now) (λ held. SendsFront (g.S.Sink.written c.args.out.now) (g.S.Sink.written c.run_task.new.out) (outcome_of held asked).bytes))
+    (ap (option_map task_view) (sym c.in-Some.is) ∙ c.task_of.ensures)
+    c.run_task.ensures.part

@@ -1,0 +1,4 @@
+pub mod Edited
+pub mod Texts
+pub mod Tested
+pub mod Opened

@@ -1,7 +1,0 @@
-use Rattle.machine_definitions.specs.Output.{usage}
-use Rattle.editor_program.proofs.Sending.{front_of}
-use Rattle.editor_program.proofs.run.show_usage.Goals as goal
-
-pub returns-in-Err-clause-part : goal.returns-in-Err-clause-part
-unfolding usage
-returns-in-Err-clause-part g c = front_of (g.S.Sink.written c.args.out.now) (g.S.Sink.written c.write_whole.new.out) usage _ c.in-Err.ensures.part

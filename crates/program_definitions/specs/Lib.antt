@@ -1,0 +1,5 @@
+pub mod Shown
+pub mod Machine
+pub mod Task
+pub mod Output
+pub mod Sample

@@ -1,0 +1,18 @@
+-- A document for the worked examples.
+use Rattle.std.specs.Prelude.{[], ◌∷◌, false, codes}
+use Rattle.item_definitions.specs.Item.{element, none}
+use Rattle.item_definitions.specs.Position.{between}
+use Rattle.document_definitions.specs.Selection.{selected}
+use Rattle.document_definitions.specs.Document.{State}
+
+-- an empty paragraph with the selection in it
+abbrev pub one_paragraph : State
+one_paragraph = record {
+  document = record {
+    items = element 1 (codes "paragraph") [] none ∷ [];
+    markers = [];
+    selection = selected (between (0 ∷ 0 ∷ []) (0 ∷ 0 ∷ [])) false;
+    next_id = 2;
+  };
+  cells = [];
+}
