@@ -89,7 +89,7 @@ fn form_at(alloc: Global, value: &Value) -> Result<FileForm, FormFault>
 {
     let path = FieldPath::new(alloc);
     object_at(&path, value)?;
-    let _ = count_field(&path, "version", 1, 1, value)?;
+    let _ = count_field(&path, "version", 1, 2, value)?;
     let rounds = optional_count(&path, "rounds", 1, 1000, value)?;
     let start = optional_name(alloc, &path, "start", value)?;
     let entries = entries_field(alloc, value)?;

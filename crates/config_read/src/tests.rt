@@ -33,37 +33,151 @@ fn reads_a_file(rt: HostRuntime) -> Result<(), Fail> {
     Ok(())
 }
 
-/// Why a file is refused, as the fault's place in their order.
-fn refusal(alloc: Global, text: &str) -> u8 {
+/// The printed text of a file's fault, or `ok`.
+fn answer_to(alloc: Global, text: &str) -> Result<String, Fail> {
     match read_settings(alloc, text.as_bytes()) {
-        Ok(_) => 0,
-        Err(SettingsFault::NotJson) => 1,
-        Err(SettingsFault::BadField(_)) => 2,
-        Err(SettingsFault::TwiceRegistered(_)) => 3,
-        Err(SettingsFault::UnknownItem(_)) => 4,
-        Err(SettingsFault::BadCheck(_)) => 5,
-        Err(SettingsFault::NoMemory) => 6,
+        Ok(_) => Ok(String::from_str(alloc, "ok")?),
+        Err(SettingsFault::NoMemory) => Err(Fail::new("no memory")),
+        Err(fault) => text_of(alloc, &fault),
     }
 }
 
-#[test]
-fn refuses_files(rt: HostRuntime) {
-    let rows = [
-        ("{\"version\":1,\"schema\":[]}", 0),
-        ("{", 1),
-        ("{}", 2),
-        ("{\"version\":1,\"schema\":[],\"more\":0}", 2),
-        ("{\"version\":1,\"schema\":[{\"item\":\"$root\"}]}", 3),
-        ("{\"version\":1,\"start\":\"p\",\"schema\":[]}", 4),
-        ("{\"version\":1,\"schema\":[{\"extend\":\"p\"}]}", 4),
-        (
-            "{\"version\":1,\"schema\":[],\"checks\":[{\"attribute\":\"k\",\"endsWith\":[],\"answer\":true}]}",
-            5,
-        ),
-    ];
+/// Reads files, each with the text that it is answered by.
+fn expect_answers(alloc: Global, rows: &[(&str, &str)]) -> Result<(), Fail> {
     for (text, want) in rows {
-        assert_eq!(rt; refusal(rt.alloc(), text), want, "{text}");
+        let answer = answer_to(alloc, text)?;
+        if answer.as_str() != *want {
+            return Err(Fail::new("another answer"));
+        }
     }
+    Ok(())
+}
+
+#[test]
+fn answers_files(rt: HostRuntime) -> Result<(), Fail> {
+    expect_answers(
+        rt.alloc(),
+        &[
+            (r#"{"version":1,"schema":[]}"#, "ok"),
+            (
+                r#"{"version":2,"schema":[{"item":"p","allowIn":"$root"}]}"#,
+                "ok",
+            ),
+            (
+                r#"{"version":1,"schema":[{"item":"a","inheritAllFrom":"b"},{"item":"b","inheritAllFrom":["a","b"]}]}"#,
+                "ok",
+            ),
+            ("", "NotJson"),
+            ("{", "NotJson"),
+            ("[]", "BadField "),
+            ("{}", "BadField /version"),
+            (r#"{"version":"1","schema":[]}"#, "BadField /version"),
+            (r#"{"version":3,"schema":[]}"#, "BadField /version"),
+            (
+                r#"{"version":1,"rounds":0,"schema":[]}"#,
+                "BadField /rounds",
+            ),
+            (
+                r#"{"version":1,"rounds":1001,"schema":[]}"#,
+                "BadField /rounds",
+            ),
+            (
+                r#"{"version":1,"rounds":1.5,"schema":[]}"#,
+                "BadField /rounds",
+            ),
+            (
+                r#"{"version":1,"start":null,"schema":[]}"#,
+                "BadField /start",
+            ),
+            (
+                r#"{"version":1,"start":["p"],"schema":[]}"#,
+                "BadField /start",
+            ),
+            (
+                r#"{"version":1,"start":"aaaaaaaaaaaaaaaaaaaaaaaaaaaaaaaaaaaaaaaaaaaaaaaaaaaaaaaaaaaaaaaaa","schema":[]}"#,
+                "BadField /start",
+            ),
+            (r#"{"version":1}"#, "BadField /schema"),
+            (r#"{"version":1,"schema":{}}"#, "BadField /schema"),
+            (r#"{"version":1,"schema":[],"more":0}"#, "BadField /more"),
+            (
+                r#"{"version":1,"schema":[{"item":"$root"}]}"#,
+                "TwiceRegistered $root",
+            ),
+            (r#"{"version":1,"start":"p","schema":[]}"#, "UnknownItem p"),
+            (
+                r#"{"version":1,"schema":[{"extend":"p"}]}"#,
+                "UnknownItem p",
+            ),
+            (
+                r#"{"version":1,"schema":[],"checks":[{"attribute":"k","endsWith":[],"answer":true}]}"#,
+                "BadCheck 1",
+            ),
+        ],
+    )
+}
+
+#[test]
+fn refuses_entries_and_checks(rt: HostRuntime) -> Result<(), Fail> {
+    expect_answers(
+        rt.alloc(),
+        &[
+            (r#"{"version":1,"schema":[7]}"#, "BadField /schema/0"),
+            (r#"{"version":1,"schema":[{}]}"#, "BadField /schema/0/item"),
+            (
+                r#"{"version":1,"schema":[{"item":"p","extend":"p"}]}"#,
+                "BadField /schema/0/item",
+            ),
+            (
+                r#"{"version":1,"schema":[{"item":"a b"}]}"#,
+                "BadField /schema/0/item",
+            ),
+            (
+                r#"{"version":1,"schema":[{"extend":7}]}"#,
+                "BadField /schema/0/extend",
+            ),
+            (
+                r#"{"version":1,"schema":[{"item":"p","allowIn":7}]}"#,
+                "BadField /schema/0/allowIn",
+            ),
+            (
+                r#"{"version":1,"schema":[{"item":"p","inheritAllFrom":["$block",""]}]}"#,
+                "BadField /schema/0/inheritAllFrom/1",
+            ),
+            (
+                r#"{"version":1,"schema":[{"item":"p","isBlock":1}]}"#,
+                "BadField /schema/0/isBlock",
+            ),
+            (
+                r#"{"version":1,"schema":[{"item":"p"},{"item":"q","x":1}]}"#,
+                "BadField /schema/1/x",
+            ),
+            (
+                r#"{"version":1,"schema":[],"checks":null}"#,
+                "BadField /checks",
+            ),
+            (
+                r#"{"version":1,"schema":[],"checks":[{"child":"p"}]}"#,
+                "BadField /checks/0/endsWith",
+            ),
+            (
+                r#"{"version":1,"schema":[],"checks":[{"endsWith":["p"],"answer":true}]}"#,
+                "BadField /checks/0/child",
+            ),
+            (
+                r#"{"version":1,"schema":[],"checks":[{"child":"p","endsWith":"p","answer":true}]}"#,
+                "BadField /checks/0/endsWith",
+            ),
+            (
+                r#"{"version":1,"schema":[],"checks":[{"attribute":"k","endsWith":["p"],"answer":1}]}"#,
+                "BadField /checks/0/answer",
+            ),
+            (
+                r#"{"version":1,"schema":[],"checks":[{"child":"p","attribute":"k","endsWith":["p"],"answer":true}]}"#,
+                "BadField /checks/0/attribute",
+            ),
+        ],
+    )
 }
 
 /// The text of a fault.

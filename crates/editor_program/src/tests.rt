@@ -23,12 +23,13 @@ struct Outcome {
 
 /// The words of a run, `ckcore run settings NAME`.
 fn run_words(alloc: Global, name: &str) -> Result<Vec<String>, AllocError> {
-    vec![in alloc;
+    let words = vec![in alloc;
         String::from_str(alloc, "ckcore")?,
         String::from_str(alloc, "run")?,
         String::from_str(alloc, "settings")?,
         String::from_str(alloc, name)?,
-    ]
+    ]?;
+    Ok(words)
 }
 
 /// Runs the program on these words, where `settings` and `script` are held with these bytes. The sink takes at most `most` bytes a call, and
@@ -134,7 +135,7 @@ fn refuses_broken_lines(runtime: HostRuntime) -> Result<(), Fail> {
         ),
         (
             br#"{"do":"change","edits":[{"edit":"merge","at":[1]}]}"#,
-            b"BadPosition 1 [1]",
+            b"BadTarget 1 [1]",
         ),
     ];
     for (line, want) in rows {
@@ -210,6 +211,32 @@ fn refuses_nesting_and_length(runtime: HostRuntime) -> Result<(), Fail> {
     )?;
     assert_eq!(runtime; too_long.status, 6);
     assert!(runtime; too_long.bytes.is_empty());
+    Ok(())
+}
+
+/// A script that inserts so many letters into the paragraph.
+fn letters(alloc: Global, count: usize) -> Result<Vec<u8>, AllocError> {
+    let text = vec![in alloc; b'a'; count]?;
+    [
+        br#"{"do":"change","edits":[{"edit":"insertText","at":[0,0],"text":""#.as_slice(),
+        text.as_slice(),
+        br#""}]}"#.as_slice(),
+    ]
+    .concat(alloc)
+}
+
+#[test]
+fn takes_a_million_items(runtime: HostRuntime) -> Result<(), Fail> {
+    let alloc = runtime.alloc();
+    let most = letters(alloc, 999_999)?;
+    let ran = run_script(alloc, most.as_slice())?;
+    assert_eq!(runtime; ran.bytes.as_slice(), b"1 ok\n".as_slice());
+    let more = letters(alloc, 1_000_000)?;
+    let ran = run_script(alloc, more.as_slice())?;
+    assert_eq!(runtime;
+        ran.bytes.as_slice(),
+        b"1 refused TooLarge 1 1000001\n".as_slice()
+    );
     Ok(())
 }
 

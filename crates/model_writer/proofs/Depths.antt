@@ -14,7 +14,7 @@ use Rattle.operation_definitions.proofs.Names.{same_numbers, numbers_same}
 use Rattle.document_definitions.specs.Selection.{same_position}
 use Rattle.operation_definitions.proofs.Lifting.{then-some}
 use Rattle.edit_definitions.specs.Places.{is_there, is_range, are_in_one, is_element}
-use Rattle.model_writer.proofs.Tests.{there-at}
+use Rattle.model_writer.proofs.PlaceTests.{there-at}
 
 depth-list : (children : Items) → inner_depth children ≡ depth_of (list_of children)
 depth-list none = refl

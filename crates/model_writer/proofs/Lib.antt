@@ -1,4 +1,4 @@
-pub mod Tests
+pub mod PlaceTests
 pub mod Inserted
 pub mod Named
 pub mod Made

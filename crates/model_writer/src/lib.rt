@@ -11,8 +11,6 @@ pub mod performing;
 mod places;
 mod planning;
 mod runs;
-#[cfg(test)]
-mod tests;
 mod wrapping;
 
 pub use model_doc::Batch;

@@ -14,7 +14,7 @@ use model_tree::tree::Tree;
 use schema_rules::schema::Schema;
 
 /// Whether a position is in the tree.
-#[tactic(auto, using(crate::proofs::Tests::there_counted, crate::proofs::Tests::there_nowhere))]
+#[tactic(auto, using(crate::proofs::PlaceTests::there_counted, crate::proofs::PlaceTests::there_nowhere))]
 pub(crate) fn is_there(tree: &Tree, at: &Position) -> bool
     ensures { result ≡ is_there tree.now at.now }
 {
@@ -41,7 +41,7 @@ pub(crate) fn are_in_one(start: &Position, end: &Position) -> bool
 }
 
 /// Whether an element stands at a path.
-#[tactic(auto, using(crate::proofs::Tests::element_there, crate::proofs::Tests::element_character, crate::proofs::Tests::element_nowhere))]
+#[tactic(auto, using(crate::proofs::PlaceTests::element_there, crate::proofs::PlaceTests::element_character, crate::proofs::PlaceTests::element_nowhere))]
 pub(crate) fn is_element(tree: &Tree, path: &Path) -> bool
     ensures { result ≡ is_element tree.now path.now }
 {

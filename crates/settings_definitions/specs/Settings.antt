@@ -1,6 +1,6 @@
 -- A settings file:
 --     {"version":1,"rounds":COUNT,"start":NAME,"schema":[ENTRY,..],"checks":[CHECK,..]}
--- `rounds` is from 1 to 1000, and 64 where it isn't there; `start` and `checks` are optional too.
+-- `version` is 1 or 2, which say the same of these fields; `rounds` is from 1 to 1000, and 64 where it isn't there; `start` and `checks` are optional too.
 use Rattle.std.specs.Prelude.{ℕ, List, [], ◌∷◌, ◌++◌, Bool, true, false, ◌&&◌, ◌==◌, not, Option, Some, None, Result, Ok, Err, if◌then◌else◌, codes, option_and_then, option_map, unwrap_or}
 use Rattle.std.specs.Option.{option_or}
 use Rattle.serde_json.specs.Data.{Data, Items}
@@ -44,7 +44,7 @@ settings_fields = codes "version" ∷ codes "rounds" ∷ codes "start" ∷ codes
 unfoldable pub form_at : Data → Result Form FormFault
 form_at d = do
   _ ← object_at [] d
-  _ ← count_field [] (codes "version") 1 1 d
+  _ ← count_field [] (codes "version") 1 2 d
   rounds ← optional_count [] (codes "rounds") 1 1000 d
   start ← optional_name [] (codes "start") d
   entries ← entries_field d

@@ -23,7 +23,7 @@ pub fn forms()
 /// The first place that breaks the form.
 pub fn broken_forms()
     ensures empty { form_of (codes "{}") ≡ Err (form.BadField (codes "/version")) }
-    ensures other_version { form_of (codes "{\"version\":2}") ≡ Err (form.BadField (codes "/version")) }
+    ensures other_version { form_of (codes "{\"version\":3}") ≡ Err (form.BadField (codes "/version")) }
     ensures no_rounds { form_of (codes "{\"version\":1,\"rounds\":0}") ≡ Err (form.BadField (codes "/rounds")) }
     ensures no_schema { form_of (codes "{\"version\":1}") ≡ Err (form.BadField (codes "/schema")) }
     ensures both { form_of (codes "{\"version\":1,\"schema\":[{\"item\":7,\"extend\":\"q\"}]}")
