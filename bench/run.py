@@ -1,19 +1,19 @@
 #!/usr/bin/env python3
-"""Measures microseconds a line of the program, in documents of growing length.
+"""Measures microseconds of processor time a line of the program, in documents of growing length.
 
 Usage: bench/run.py PROGRAM, where PROGRAM is the built program (docs/PERFORMANCE.md says where it lies).
 It prints the rows of the table in docs/PERFORMANCE.md.
 """
 import json
+import os
 import pathlib
 import subprocess
 import sys
 import tempfile
-import time
 
 PARAGRAPHS = (100, 1_000, 10_000)
-LINES = 40
-TEXT = "The quick brown fox jumps over the lazy dog. " * 4
+LINES = 200
+TEXT = "The quick brown fox jumps over the lazy dog. "
 SETTINGS = {
     "version": 1,
     "schema": [
@@ -36,31 +36,32 @@ def document(count):
     return change(*edits)
 
 
-def kinds(middle):
-    """The lines of each kind, in the middle of a document, which has more paragraphs than lines on either side."""
-    text = {"edit": "insertText", "at": [middle, 3], "text": "x"}
-    unknown = {"edit": "insertElement", "at": [0], "name": "table"}
+def kinds(middle, line):
+    """The edits that are measured, in the middle of a document, each line in another one of 40 paragraphs."""
+    place = middle + line % 40
     return {
-        "insertText, one character": change(text),
-        "split": change({"edit": "split", "at": [middle, 3]}),
-        "merge": change({"edit": "merge", "at": [middle]}),
-        "remove, one character": change({"edit": "remove", "start": [middle, 3], "end": [middle, 4]}),
-        "refused by its second edit": change(text, unknown),
+        "insertText, one character": {"edit": "insertText", "at": [place, 3], "text": "x"},
+        "split": {"edit": "split", "at": [place, 3]},
+        "merge": {"edit": "merge", "at": [middle]},
+        "remove, one character": {"edit": "remove", "start": [place, 3], "end": [place, 4]},
     }
 
 
+UNKNOWN = {"edit": "insertElement", "at": [0], "name": "table"}
+
+
 def seconds(program, folder, lines):
-    """The best of three runs of a script of these lines."""
+    """The processor time of a script of these lines, the best of three runs."""
     settings, script = folder / "settings", folder / "script"
     settings.write_text(json.dumps(SETTINGS))
     script.write_text("".join(line + "\n" for line in lines))
     best = None
     for _ in range(3):
-        start = time.perf_counter()
-        done = subprocess.run([program, "run", settings, script], stdout=subprocess.DEVNULL)
-        taken = time.perf_counter() - start
-        if done.returncode != 0:
-            sys.exit(f"status {done.returncode}")
+        process = subprocess.Popen([program, "run", settings, script], stdout=subprocess.DEVNULL)
+        _, status, used = os.wait4(process.pid, 0)
+        if status != 0:
+            sys.exit(f"status {status}")
+        taken = used.ru_utime + used.ru_stime
         best = taken if best is None else min(best, taken)
     return best
 
@@ -74,13 +75,15 @@ def main():
     with tempfile.TemporaryDirectory() as name:
         folder = pathlib.Path(name)
         empty = {count: seconds(program, folder, [document(count)]) for count in PARAGRAPHS}
-        for kind in kinds(50):
-            row = []
-            for count in PARAGRAPHS:
-                lines = [document(count)] + [kinds(count // 2)[kind]] * LINES
-                taken = seconds(program, folder, lines) - empty[count]
-                row.append(f"{max(taken, 0) / LINES * 1e6:.0f}")
-            print(f"| {kind} | " + " | ".join(row) + " |")
+        for kind in kinds(0, 0):
+            for name, more in (("", []), (", then an edit that is refused", [UNKNOWN])):
+                row = []
+                for count in PARAGRAPHS:
+                    edits = [kinds(count // 2, line)[kind] for line in range(min(LINES, count // 3))]
+                    lines = [document(count)] + [change(edit, *more) for edit in edits]
+                    taken = seconds(program, folder, lines) - empty[count]
+                    row.append(f"{max(taken, 0) / (len(lines) - 1) * 1e6:.0f}")
+                print(f"| {kind}{name} | " + " | ".join(row) + " |")
 
 
 main()

@@ -1,0 +1,13 @@
+pub mod Form
+pub mod FormCode
+pub mod Depths
+pub mod Parts
+pub mod ShapesFall
+pub mod StructuresFall
+pub mod Facts
+pub mod Pattern
+pub mod Shape
+pub mod Views
+pub mod Gives
+pub mod Layers
+pub mod Sample

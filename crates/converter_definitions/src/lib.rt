@@ -1,0 +1,11 @@
+//! What converters are: the facts of an element that they look at, the shapes and layers that they give, and the converters that a settings
+//! file can list.
+#![tactic(auto)]
+
+mod examples;
+pub mod facts;
+pub mod kind;
+pub mod pattern;
+pub mod shape;
+pub mod stock;
+pub mod structure;

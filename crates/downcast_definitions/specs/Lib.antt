@@ -1,0 +1,6 @@
+pub mod Scene
+pub mod Rows
+pub mod Place
+pub mod Seen
+pub mod Meant
+pub mod Sample
