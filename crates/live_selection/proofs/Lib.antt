@@ -1,1 +1,3 @@
 pub mod Tables
+pub mod Bounded
+pub mod Looking

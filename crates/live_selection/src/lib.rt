@@ -1,6 +1,8 @@
 //! The selection of a document. (After `DocumentSelection` of CKEditor 5's model.)
 #![tactic(auto)]
 
+mod bounds;
+mod natural;
 pub mod overrides;
 pub mod selection;
 #[cfg(test)]
