@@ -162,3 +162,26 @@ fn other_forms(rt: HostRuntime) -> Result<(), Fail> {
     );
     Ok(())
 }
+
+/// The line of a split at a position of so many numbers.
+fn split_line(alloc: Global, numbers: usize) -> Result<String, Fail> {
+    let mut line = String::from_str(
+        alloc,
+        "{\"do\":\"change\",\"edits\":[{\"edit\":\"split\",\"at\":[0",
+    )?;
+    for _ in 1..numbers {
+        line.push_str(",0")?;
+    }
+    line.push_str("]}]}")?;
+    Ok(line)
+}
+
+#[test]
+fn longest_positions(rt: HostRuntime) -> Result<(), Fail> {
+    let alloc = rt.alloc();
+    let longest = split_line(alloc, 65)?;
+    assert!(rt; is_change(alloc, longest.as_str(), 1));
+    let longer = split_line(alloc, 66)?;
+    assert!(rt; is_refused_at(alloc, longer.as_str(), "at")?);
+    Ok(())
+}
