@@ -1,15 +1,15 @@
 #!/usr/bin/env python3
-"""Measures microseconds of processor time a line of the program, in documents of growing length.
+"""Measures microseconds a line of the program, in documents of growing length.
 
 Usage: bench/run.py PROGRAM, where PROGRAM is the built program (docs/PERFORMANCE.md says where it lies).
 It prints the rows of the table in docs/PERFORMANCE.md.
 """
 import json
-import os
 import pathlib
 import subprocess
 import sys
 import tempfile
+import time
 
 PARAGRAPHS = (100, 1_000, 10_000)
 LINES = 200
@@ -41,7 +41,7 @@ def kinds(middle, line):
     place = middle + line % 40
     return {
         "insertText, one character": {"edit": "insertText", "at": [place, 3], "text": "x"},
-        "split": {"edit": "split", "at": [place, 3]},
+        "split": {"edit": "split", "at": [place, 0]},
         "merge": {"edit": "merge", "at": [middle]},
         "remove, one character": {"edit": "remove", "start": [place, 3], "end": [place, 4]},
     }
@@ -50,20 +50,21 @@ def kinds(middle, line):
 UNKNOWN = {"edit": "insertElement", "at": [0], "name": "table"}
 
 
-def seconds(program, folder, lines):
-    """The processor time of a script of these lines, the best of three runs."""
+def microseconds(program, folder, lines):
+    """The time a line behind the first one, which makes the document: the best of three runs."""
     settings, script = folder / "settings", folder / "script"
     settings.write_text(json.dumps(SETTINGS))
     script.write_text("".join(line + "\n" for line in lines))
-    best = None
+    taken = []
     for _ in range(3):
-        process = subprocess.Popen([program, "run", settings, script], stdout=subprocess.DEVNULL)
-        _, status, used = os.wait4(process.pid, 0)
-        if status != 0:
-            sys.exit(f"status {status}")
-        taken = used.ru_utime + used.ru_stime
-        best = taken if best is None else min(best, taken)
-    return best
+        process = subprocess.Popen([program, "run", settings, script], stdout=subprocess.PIPE)
+        process.stdout.readline()
+        start = time.perf_counter()
+        answered = sum(1 for _ in process.stdout)
+        taken.append(time.perf_counter() - start)
+        if process.wait() != 0 or answered != len(lines) - 1:
+            sys.exit("the script was not answered")
+    return min(taken) / (len(lines) - 1) * 1e6
 
 
 def main():
@@ -73,17 +74,14 @@ def main():
     print("| Line | " + " | ".join(f"{count:,} paragraphs" for count in PARAGRAPHS) + " |")
     print("|---|" + "---|" * len(PARAGRAPHS))
     with tempfile.TemporaryDirectory() as name:
-        folder = pathlib.Path(name)
-        empty = {count: seconds(program, folder, [document(count)]) for count in PARAGRAPHS}
         for kind in kinds(0, 0):
-            for name, more in (("", []), (", then an edit that is refused", [UNKNOWN])):
+            for suffix, more in (("", []), (", then an edit that is refused", [UNKNOWN])):
                 row = []
                 for count in PARAGRAPHS:
                     edits = [kinds(count // 2, line)[kind] for line in range(min(LINES, count // 3))]
                     lines = [document(count)] + [change(edit, *more) for edit in edits]
-                    taken = seconds(program, folder, lines) - empty[count]
-                    row.append(f"{max(taken, 0) / (len(lines) - 1) * 1e6:.0f}")
-                print(f"| {kind}{name} | " + " | ".join(row) + " |")
+                    row.append(f"{microseconds(program, pathlib.Path(name), lines):.0f}")
+                print(f"| {kind}{suffix} | " + " | ".join(row) + " |", flush=True)
 
 
 main()

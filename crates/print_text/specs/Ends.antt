@@ -1,5 +1,6 @@
 -- The marks that a printed text gets.
 use Rattle.std.specs.Prelude.{ℕ, List, [], ◌∷◌, ◌++◌, Bool, true, false, Option, Some, None}
+use Rattle.item_definitions.specs.Position.{Range}
 use Rattle.document_definitions.specs.Selection.{Selection}
 use Rattle.view_tree.specs.declared.path.ViewPlace.{ViewPlace}
 use Rattle.print_definitions.specs.Marks.{Ends, outer_marks, inner_marks}
@@ -7,9 +8,14 @@ use Rattle.print_text.specs.declared.marks.Marks.{Marks}
 use Rattle.print_text.specs.declared.marks.Brackets.{Brackets}
 use Rattle.print_text.specs.declared.marks.Brackets.TheVariants.{Square, Curly}
 
+-- those of a range, if there is one
+abbrev pub ends_in : Option Range → Option Ends
+ends_in None = None
+ends_in (Some range) = Some (record { start = range.start; end = range.end })
+
 -- those of a selection, if they are wanted
 abbrev pub ends_of : Bool → Selection → Option Ends
-ends_of true selection = Some (record { start = selection.range.start; end = selection.range.end })
+ends_of true selection = ends_in (Some selection.range)
 ends_of false selection = None
 
 -- a place of a view as its numbers

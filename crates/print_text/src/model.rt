@@ -5,7 +5,7 @@ ghost use Rattle.model_tree.specs.Nodes.{items_at};
 ghost use Rattle.print_definitions.specs.Marks.{outer_marks};
 ghost use Rattle.print_definitions.specs.Values.{value_text, attributes_text, open_tag, close_tag};
 ghost use Rattle.print_definitions.specs.ModelText.{goes_on, run_start, run_end, before_character, items_text, model_text};
-ghost use Rattle.print_text.specs.Ends.{ends_of, places_of};
+ghost use Rattle.print_text.specs.Ends.{ends_in, ends_of, places_of};
 ghost use Rattle.print_text.specs.Runs.{run_behind, run_text, element_text, node_text};
 
 use crate::marks::{Brackets, Marks};
@@ -14,7 +14,7 @@ use ck_base::attributes::Attrs;
 use ck_base::name::Name;
 use ck_base::value::Value;
 use model_doc::Document;
-use model_pos::Position;
+use model_pos::{Position, Range};
 use model_tree::items::{Items, Node};
 use model_tree::text::{Head, Text};
 use std::alloc::Global;
@@ -228,28 +228,46 @@ fn numbers_of(alloc: Global, position: &Position) -> Result<Vec<u64>, NoMemory>
     Ok(numbers)
 }
 
+/// The text of items, with the marks `[` and `]` of a range or without.
+pub(crate) fn items_text(
+    alloc: Global,
+    items: &Items,
+    range: Option<&Range>,
+) -> Result<String, NoMemory>
+    requires few { count_of items.now < 2 ^ 32 }
+    ensures { IfOk result (λ text. string_bytes text ≡ model_text (ends_in (option_copied range.entry)) items.now) }
+{
+    let mut text = String::new(alloc);
+    match range {
+        Some(range) => {
+            let start = numbers_of(alloc, range.start())?;
+            let end = numbers_of(alloc, range.end())?;
+            let marks = Marks {
+                start: start.as_slice(),
+                end: end.as_slice(),
+            };
+            push_items(&mut text, items, marks)?;
+        }
+        None => {
+            let marks = Marks {
+                start: &[],
+                end: &[],
+            };
+            push_items(&mut text, items, marks)?;
+        }
+    }
+    Ok(text)
+}
+
 /// The text of a document's items: elements as tags, and texts of equal attributes in `$text` where they have any; with the marks `[` and `]` of
 /// its selection or without. It answers `NoMemory` alone beside Ok.
 pub fn model_text(alloc: Global, document: &Document, selection: bool) -> Result<String, NoMemory>
     ensures { IfOk result (λ text. string_bytes text ≡ model_text (ends_of selection document.now.state.document.selection) document.now.state.document.items) }
 {
-    let mut text = String::new(alloc);
     let items = document.tree().items();
     if selection {
-        let range = document.selection().range();
-        let start = numbers_of(alloc, range.start())?;
-        let end = numbers_of(alloc, range.end())?;
-        let marks = Marks {
-            start: start.as_slice(),
-            end: end.as_slice(),
-        };
-        push_items(&mut text, items, marks)?;
+        items_text(alloc, items, Some(document.selection().range()))
     } else {
-        let marks = Marks {
-            start: &[],
-            end: &[],
-        };
-        push_items(&mut text, items, marks)?;
+        items_text(alloc, items, None)
     }
-    Ok(text)
 }
