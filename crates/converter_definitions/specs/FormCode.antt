@@ -3,11 +3,8 @@
 use Rattle.std.specs.Prelude.{◌≡◌, ℕ, zero, suc, ◌⊎◌, List, [], ◌∷◌, refl}
 use Rattle.std.proofs.Common.{inl, inr, ap, ◌∙◌}
 use Rattle.std.specs.Coded.{Coded, code_by, coded_ℕ, coded_list, coded×, coded⊎}
-use Rattle.view_definitions.specs.Node.{ViewAttributes}
 use Rattle.converter_definitions.specs.declared.kind.ShapeKind.{ShapeKind}
 use Rattle.converter_definitions.specs.declared.kind.ShapeKind.TheVariants.{Container, Empty, Ui}
-use Rattle.converter_definitions.specs.declared.pattern.Pattern.{Pattern}
-use Rattle.converter_definitions.specs.declared.pattern.Pattern.TheVariants.{Text, From, Index}
 use Rattle.converter_definitions.specs.Form.{Form, Forms, slot, text, element, none, more, list_of, forms_of}
 
 abbrev kind_number : ShapeKind → ℕ
@@ -27,28 +24,6 @@ kind_back Ui = refl
 
 abbrev coded_kind : Coded ShapeKind
 coded_kind = code_by ℕ coded_ℕ kind_number kind_from kind_back
-
-abbrev pattern_parts : Pattern → List ℕ ⊎ (List ℕ ⊎ ℕ)
-pattern_parts (Text scalars) = inl scalars
-pattern_parts (From key) = inr (inl key)
-pattern_parts (Index base) = inr (inr base)
-
-abbrev pattern_from : List ℕ ⊎ (List ℕ ⊎ ℕ) → Pattern
-pattern_from (inl scalars) = Text scalars
-pattern_from (inr (inl key)) = From key
-pattern_from (inr (inr base)) = Index base
-
-pub pattern_back : (pattern : Pattern) → pattern_from (pattern_parts pattern) ≡ pattern
-pattern_back (Text scalars) = refl
-pattern_back (From key) = refl
-pattern_back (Index base) = refl
-
-abbrev coded_texts : Coded ViewAttributes
-coded_texts = coded_list (coded× (coded_list coded_ℕ) (coded_list coded_ℕ))
-
-abbrev pub coded_patterns : Coded (List (List ℕ × Pattern))
-coded_patterns =
-    coded_list (coded× (coded_list coded_ℕ) (code_by (List ℕ ⊎ (List ℕ ⊎ ℕ)) (coded⊎ (coded_list coded_ℕ) (coded⊎ (coded_list coded_ℕ) coded_ℕ)) pattern_parts pattern_from pattern_back))
 
 -- a text, the head of an element, the slot, or the end of an element
 abbrev Token : Type 0 → Type 0
@@ -108,16 +83,9 @@ forms_back {A} forms =
 abbrev coded_tokens : {A : Type 0} → Coded A → Coded (List (Token A))
 coded_tokens code = coded_list (coded⊎ (coded_list coded_ℕ) (coded⊎ (coded× coded_kind (coded× (coded_list coded_ℕ) code)) (coded⊎ coded_ℕ coded_ℕ)))
 
-abbrev coded_forms : {A : Type 0} → Coded A → Coded (List (Form A))
+-- lists of nodes
+abbrev pub coded_forms : {A : Type 0} → Coded A → Coded (List (Form A))
 coded_forms {A} code = code_by (List (Token A)) (coded_tokens code) (λ forms. inner_tokens (forms_of forms) []) (λ tokens. list_of (read tokens).0) forms_back
-
--- shapes, whose attributes are texts
-abbrev pub coded_shapes : Coded (List (Form ViewAttributes))
-coded_shapes = coded_forms coded_texts
-
--- shapes in the settings, whose attributes are patterns
-abbrev pub coded_structures : Coded (List (Form (List (List ℕ × Pattern))))
-coded_structures = coded_forms coded_patterns
 
 -- the first of a list of nodes
 abbrev first_of : {A : Type 0} → Forms A → Form A
@@ -127,6 +95,6 @@ first_of (more form forms) = form
 pub form_back : {A : Type 0} → (form : Form A) → first_of (read (form_tokens form [])).0 ≡ form
 form_back {A} form = ap (λ (r : Forms A × List (Forms A)). first_of r.0) (read-form form [])
 
--- a shape
-abbrev pub coded_shape : Coded (Form ViewAttributes)
-coded_shape = code_by (List (Token ViewAttributes)) (coded_tokens coded_texts) (λ form. form_tokens form []) (λ tokens. first_of (read tokens).0) form_back
+-- one node
+abbrev pub coded_form : {A : Type 0} → Coded A → Coded (Form A)
+coded_form {A} code = code_by (List (Token A)) (coded_tokens code) (λ form. form_tokens form []) (λ tokens. first_of (read tokens).0) form_back

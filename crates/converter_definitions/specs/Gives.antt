@@ -8,6 +8,7 @@ use Rattle.ck_base.specs.declared.value.Value.{Value as AttributeValue}
 use Rattle.ck_base.specs.Entries.{value_of}
 use Rattle.item_definitions.specs.Item.{Attributes}
 use Rattle.operation_definitions.specs.After.{same_value}
+use Rattle.schema_definitions.specs.Names.{has}
 use Rattle.view_definitions.specs.Node.{ViewAttributes}
 use Rattle.view_definitions.specs.Layer.{Layer}
 use Rattle.converter_definitions.specs.declared.kind.ShapeKind.TheVariants.{Container, Empty}
@@ -20,7 +21,6 @@ use Rattle.converter_definitions.specs.declared.stock.ElementView.{ElementView}
 use Rattle.converter_definitions.specs.declared.stock.LayerView.{LayerView}
 use Rattle.converter_definitions.specs.declared.stock.AttributeView.{AttributeView}
 use Rattle.converter_definitions.specs.Form.{Form, slot, element, forms_of}
-use Rattle.converter_definitions.specs.Parts.{structure_of}
 use Rattle.converter_definitions.specs.Facts.{all_keys, are_left, left_without_all}
 use Rattle.converter_definitions.specs.Pattern.{Patterns, printed_value, text_of, texts_of, with_text}
 use Rattle.converter_definitions.specs.Shape.{form_with, with_outer}
@@ -104,12 +104,9 @@ abbrev pub stock_gift : List (List ℕ) → StockConverter → Facts → Option 
 stock_gift objects (ElementToElement model attributes parent view) facts =
     gift_if (is_meant model attributes parent facts) (shape_gift facts attributes (element_form view))
 stock_gift objects (ElementToStructure model attributes parent view) facts =
-    gift_if (is_meant model attributes parent facts) (shape_gift facts attributes (structure_of view))
+    gift_if (is_meant model attributes parent facts) (shape_gift facts attributes view)
 stock_gift objects (AttributeToElement model value view) facts =
-    gift_if (has_value facts.attributes model value && is_object objects facts.name) (Attribute model ∷ [], layer (layer_from facts.attributes view)) where
-      is_object : List (List ℕ) → List ℕ → Bool
-      is_object [] name = false
-      is_object (object ∷ more_objects) name = if bytes_eq object name then true else is_object more_objects name
+    gift_if (has_value facts.attributes model value && has objects facts.name) (Attribute model ∷ [], layer (layer_from facts.attributes view))
 stock_gift objects (AttributeToAttribute wanted model value view) facts =
     gift_if (is_named wanted facts.name && has_value facts.attributes model value) (Attribute model ∷ [], part (extra (with_text view.key (attribute_text facts model view) [])))
 stock_gift objects (MarkerToHighlight marker view) facts = None

@@ -3,7 +3,6 @@ pub mod FormCode
 pub mod Depths
 pub mod Parts
 pub mod ShapesFall
-pub mod StructuresFall
 pub mod Facts
 pub mod Pattern
 pub mod Shape

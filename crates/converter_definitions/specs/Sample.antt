@@ -14,9 +14,7 @@ use Rattle.converter_definitions.specs.declared.pattern.Pattern.TheVariants.{Tex
 use Rattle.converter_definitions.specs.declared.stock.StockConverter.TheVariants.{ElementToElement, ElementToStructure, AttributeToElement, AttributeToAttribute, MarkerToHighlight, MarkerToElement}
 use Rattle.converter_definitions.specs.declared.stock.ElementView.{ElementView}
 use Rattle.converter_definitions.specs.declared.stock.LayerView.{LayerView}
-use Rattle.converter_definitions.specs.declared.structure.PatternNode.{PatternNode}
-use Rattle.converter_definitions.specs.declared.structure.PatternNode.TheVariants as pattern
-use Rattle.converter_definitions.specs.Form.{Form, Forms, element, none}
+use Rattle.converter_definitions.specs.Form.{Form, Forms, element, none, more}
 use Rattle.converter_definitions.specs.Pattern.{Patterns}
 use Rattle.converter_definitions.specs.Gives.{Conversion, Converter, stock, Part, shape}
 
@@ -36,9 +34,9 @@ abbrev pub layer_view : List ℕ → Patterns → LayerView
 layer_view name attributes = record { name = name; attributes = attributes; priority = pos 10; id = None }
 
 -- an image in a figure
-abbrev pub figure : PatternNode
-figure = pattern.Element kind.Container (codes "figure") ((codes "class", Text (codes "image")) ∷ [])
-    (element kind.Empty (codes "img") ((codes "src", From (codes "source")) ∷ []) none ∷ [])
+abbrev pub figure : Form Patterns
+figure = element kind.Container (codes "figure") ((codes "class", Text (codes "image")) ∷ [])
+    (more (element kind.Empty (codes "img") ((codes "src", From (codes "source")) ∷ []) none) none)
 
 -- a check box, as a product's converter gives it
 abbrev pub check_box : Facts → Option (List Key × Part)

@@ -4,8 +4,8 @@
 
 mod examples;
 pub mod facts;
+mod fitting;
 pub mod kind;
 pub mod pattern;
 pub mod shape;
 pub mod stock;
-pub mod structure;

@@ -1,6 +1,10 @@
 //! Texts of the view that may depend on an element of the model.
+ghost use Rattle.std.specs.Prelude.{◌≡◌, OnOk, [], ◌∷◌, ◌++◌};
+
+use ck_base::NoMemory;
 use ck_base::name::Name;
 use ck_base::text::ViewText;
+use std::alloc::Global;
 use std::marker::Model;
 
 /// A text of the view.
@@ -28,4 +32,30 @@ impl Model for Patterns {
     ghost Value = { List (List ℕ × Pattern) };
 
     ghost view = { λ patterns. patterns.entries.items };
+}
+
+impl Patterns {
+    /// None.
+    pub fn new(alloc: Global) -> Patterns
+        ensures { result ≡ [] }
+    {
+        Patterns {
+            entries: Vec::new(alloc),
+        }
+    }
+
+    /// One more, behind those that are there. It answers `NoMemory` alone beside Ok.
+    pub fn push(&mut self, key: Name, pattern: Pattern) -> Result<(), NoMemory>
+        ensures { OnOk result (self.new ≡ self.old ++ (key, pattern) ∷ []) }
+    {
+        self.entries.push((key, pattern))?;
+        Ok(())
+    }
+
+    /// The attributes in their order.
+    pub fn as_slice(&self) -> &[(Name, Pattern)]
+        ensures { result.now ≡ self.now }
+    {
+        &self.entries
+    }
 }

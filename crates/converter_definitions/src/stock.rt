@@ -1,6 +1,6 @@
 //! The converters that a settings file can list.
 use crate::pattern::{Pattern, Patterns};
-use crate::structure::PatternNode;
+use crate::shape::Shape;
 use ck_base::attributes::{Attrs, ViewAttrs};
 use ck_base::name::Name;
 use ck_base::value::Value;
@@ -20,7 +20,7 @@ pub enum StockConverter {
         model: Name,
         attributes: Attrs,
         parent: Option<Name>,
-        view: PatternNode,
+        view: Shape<Patterns>,
     },
     /// An attribute of characters and of objects in the text becomes an attribute element around them.
     AttributeToElement {

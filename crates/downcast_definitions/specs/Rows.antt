@@ -1,11 +1,10 @@
 -- The rows of a document, and the view that they nest to.
-use Rattle.std.specs.Prelude.{ℕ, ◌+◌, List, [], ◌∷◌, ◌++◌, Bool, Some, None, unwrap_or, if◌then◌else◌, codes}
-use Rattle.std.specs.List.{list_any}
-use Rattle.std.specs.Str.{bytes_eq}
+use Rattle.std.specs.Prelude.{ℕ, ◌+◌, List, [], ◌∷◌, ◌++◌, Some, None, unwrap_or, if◌then◌else◌, codes}
 use Rattle.item_definitions.specs.Item.{Item, Items, Attributes, items_of}
 use Rattle.item_definitions.specs.Item as items
 use Rattle.document_definitions.specs.Document.{Document}
 use Rattle.document_definitions.specs.Markers.{covering}
+use Rattle.schema_definitions.specs.Names.{has}
 use Rattle.view_definitions.specs.Node.{ViewNode, text}
 use Rattle.view_definitions.specs.Layer.{Layer}
 use Rattle.view_definitions.specs.Row.{Entry, item, character, nest}
@@ -22,13 +21,10 @@ abbrev pub elements_in : Item → ℕ
 elements_in (items.character scalar attributes) = 0
 elements_in (items.element id name attributes children) = 1
 
-abbrev pub has_name : List (List ℕ) → List ℕ → Bool
-has_name names name = list_any (λ other. bytes_eq other name) names
-
 -- what converters look at of an element with this parent, before which this many elements stand
 abbrev pub facts_of : Conversion → List ℕ → ℕ → List ℕ → Attributes → Facts
 facts_of conversion parent before name attributes =
-    record { name = name; attributes = attributes; parent = parent; index = if has_name conversion.indexed name then Some before else None }
+    record { name = name; attributes = attributes; parent = parent; index = if has conversion.indexed name then Some before else None }
 
 -- an element that no converter makes a shape of would be a container of its own name; a document of a checked schema has none
 abbrev pub unconverted : List ℕ → Converted
@@ -41,7 +37,7 @@ shape_at conversion parent before name attributes = unwrap_or (converted convers
 -- the layers of an element: only objects in the text have some
 abbrev pub element_layers : Scene → List ℕ → List ℕ → List Layer → List Layer
 element_layers scene path name own =
-    if has_name scene.conversion.objects name then object_layers scene.conversion own (covering path scene.markers) else []
+    if has scene.conversion.objects name then object_layers scene.conversion own (covering path scene.markers) else []
 
 -- the first of the nodes that a shape is
 abbrev pub only : List ViewNode → ViewNode
