@@ -15,6 +15,8 @@ use Rattle.converter_definitions.specs.declared.kind.ShapeKind.TheVariants.{Cont
 use Rattle.converter_definitions.specs.declared.facts.Facts.{Facts}
 use Rattle.converter_definitions.specs.declared.facts.Key.{Key}
 use Rattle.converter_definitions.specs.declared.facts.Key.TheVariants.{Insert, Attribute}
+use Rattle.converter_definitions.specs.declared.part.Part.{Part}
+use Rattle.converter_definitions.specs.declared.part.Part.TheVariants.{Shape, Extra}
 use Rattle.converter_definitions.specs.declared.stock.StockConverter.{StockConverter}
 use Rattle.converter_definitions.specs.declared.stock.StockConverter.TheVariants.{ElementToElement, ElementToStructure, AttributeToElement, AttributeToAttribute, MarkerToHighlight, MarkerToElement}
 use Rattle.converter_definitions.specs.declared.stock.ElementView.{ElementView}
@@ -25,11 +27,6 @@ use Rattle.converter_definitions.specs.Facts.{all_keys, are_left, left_without_a
 use Rattle.converter_definitions.specs.Pattern.{Patterns, printed_value, text_of, texts_of, with_text}
 use Rattle.converter_definitions.specs.Shape.{form_with, with_outer}
 use Rattle.converter_definitions.specs.Views.{with_extra}
-
--- what a product's converter writes: the shape of an element, or more attributes for its outermost element of the view
-pub data Part : Type 0 where
-  shape : Form ViewAttributes → Part
-  extra : ViewAttributes → Part
 
 -- what a converter gives: a part, or a layer around the element
 pub data Given : Type 0 where
@@ -87,7 +84,7 @@ element_form view =
 
 -- a shape whose patterns are filled in
 abbrev pub shape_gift : Facts → Attributes → Form Patterns → Gift
-shape_gift facts attributes form = (insert_keys attributes, part (shape (form_with (filled_in facts) form)))
+shape_gift facts attributes form = (insert_keys attributes, part (Shape (form_with (filled_in facts) form)))
 
 -- the layer of an attribute
 abbrev pub layer_from : Attributes → LayerView → Layer
@@ -108,7 +105,7 @@ stock_gift objects (ElementToStructure model attributes parent view) facts =
 stock_gift objects (AttributeToElement model value view) facts =
     gift_if (has_value facts.attributes model value && has objects facts.name) (Attribute model ∷ [], layer (layer_from facts.attributes view))
 stock_gift objects (AttributeToAttribute wanted model value view) facts =
-    gift_if (is_named wanted facts.name && has_value facts.attributes model value) (Attribute model ∷ [], part (extra (with_text view.key (attribute_text facts model view) [])))
+    gift_if (is_named wanted facts.name && has_value facts.attributes model value) (Attribute model ∷ [], part (Extra (with_text view.key (attribute_text facts model view) [])))
 stock_gift objects (MarkerToHighlight marker view) facts = None
 stock_gift objects (MarkerToElement marker view) facts = None
 
@@ -125,8 +122,8 @@ pub record Collected : Type 0 where
   pub layers : List Layer
 
 abbrev pub with_given : Given → Collected → Collected
-with_given (part (shape form)) made = record made { form = Some form }
-with_given (part (extra attributes)) made = record made { extras = made.extras ++ attributes ∷ [] }
+with_given (part (Shape form)) made = record made { form = Some form }
+with_given (part (Extra attributes)) made = record made { extras = made.extras ++ attributes ∷ [] }
 with_given (layer outer) made = record made { layers = made.layers ++ outer ∷ [] }
 
 -- a converter whose keys are all left takes them and adds what it gives

@@ -10,13 +10,15 @@ use Rattle.converter_definitions.specs.declared.kind.ShapeKind.TheVariants as ki
 use Rattle.converter_definitions.specs.declared.facts.Facts.{Facts}
 use Rattle.converter_definitions.specs.declared.facts.Key.{Key}
 use Rattle.converter_definitions.specs.declared.facts.Key.TheVariants.{Insert}
+use Rattle.converter_definitions.specs.declared.part.Part.{Part}
+use Rattle.converter_definitions.specs.declared.part.Part.TheVariants.{Shape}
 use Rattle.converter_definitions.specs.declared.pattern.Pattern.TheVariants.{Text, From, Index}
 use Rattle.converter_definitions.specs.declared.stock.StockConverter.TheVariants.{ElementToElement, ElementToStructure, AttributeToElement, AttributeToAttribute, MarkerToHighlight, MarkerToElement}
 use Rattle.converter_definitions.specs.declared.stock.ElementView.{ElementView}
 use Rattle.converter_definitions.specs.declared.stock.LayerView.{LayerView}
 use Rattle.converter_definitions.specs.Form.{Form, Forms, element, none, more}
 use Rattle.converter_definitions.specs.Pattern.{Patterns}
-use Rattle.converter_definitions.specs.Gives.{Conversion, Converter, stock, Part, shape}
+use Rattle.converter_definitions.specs.Gives.{Conversion, Converter, stock}
 
 -- an element of the view that its content is in
 abbrev pub view_of : List ℕ → Patterns → ElementView
@@ -40,7 +42,7 @@ figure = element kind.Container (codes "figure") ((codes "class", Text (codes "i
 
 -- a check box, as a product's converter gives it
 abbrev pub check_box : Facts → Option (List Key × Part)
-check_box facts = Some (Insert ∷ [], shape (element kind.Empty (codes "input") ((codes "type", codes "checkbox") ∷ []) none))
+check_box facts = Some (Insert ∷ [], Shape (element kind.Empty (codes "input") ((codes "type", codes "checkbox") ∷ []) none))
 
 -- the converters, those of a higher priority first
 abbrev pub sample_converters : List Converter

@@ -1,5 +1,5 @@
 //! Shapes.
-ghost use Rattle.std.specs.Prelude.{◌≡◌, Some, None, if◌then◌else◌};
+ghost use Rattle.std.specs.Prelude.{◌≡◌, Some, None, true, if◌then◌else◌};
 ghost use Rattle.converter_definitions.specs.Parts.{shape_of, shapes_of};
 ghost use Rattle.converter_definitions.specs.Shape.{is_shape};
 
@@ -107,7 +107,8 @@ impl<A: Drop> Shape<A> {
 
     /// Its outermost node.
     pub fn outermost(&self) -> &ShapeNode<A>
-        ensures { shape_of result.now ≡ self.now }
+        ensures outermost { shape_of result.now ≡ self.now }
+        ensures is_shape { is_shape self.now ≡ true }
     {
         &self.outermost
     }
