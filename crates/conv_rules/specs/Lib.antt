@@ -1,2 +1,3 @@
 pub mod Turn
 pub mod Gifts
+pub mod Listed

@@ -5,4 +5,6 @@ pub mod consumables;
 pub mod converter;
 mod filling;
 mod gift;
+pub mod list;
+pub mod shaping;
 mod stock;

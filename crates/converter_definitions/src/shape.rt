@@ -115,7 +115,8 @@ impl<A: Drop> Shape<A> {
 
     /// Its outermost node, taken out.
     pub fn into_outermost(self) -> ShapeNode<A>
-        ensures { shape_of result ≡ self }
+        ensures outermost { shape_of result ≡ self }
+        ensures is_shape { is_shape self ≡ true }
     {
         self.outermost
     }

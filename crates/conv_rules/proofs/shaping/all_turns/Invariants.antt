@@ -1,0 +1,15 @@
+use Rattle.std.proofs.Common.{◌≡◌, ◌+◌, ◌≤◌, drop, fold}
+use Rattle.converter_definitions.specs.Gives.{with_gift, gift}
+use Rattle.conv_rules.specs.Gifts.{made_view}
+use Rattle.conv_rules.specs.Listed.{boxed_count, converters_of}
+use Rattle.conv_rules.proofs.shaping.all_turns.Given as goal
+
+abbrev pub invariant-loop-listed : goal.invariant-loop-listed
+invariant-loop-listed g l = record {
+  made : fold (λ made converter. with_gift made (gift l.fn.objects l.fn.facts converter)) (made_view l.made)
+      (converters_of (λ b. (goal.Converter-dyn g (b.vtable, b.value)).gives b.value) (drop l.listed-index l.fn.entries))
+      ≡ fold (λ made converter. with_gift made (gift l.fn.objects l.fn.facts converter)) (made_view l.initial.made)
+      (converters_of (λ b. (goal.Converter-dyn g (b.vtable, b.value)).gives b.value) l.fn.entries);
+  calls : l.steps + boxed_count (converters_of (λ b. (goal.Converter-dyn g (b.vtable, b.value)).gives b.value) (drop l.listed-index l.fn.entries))
+      ≤ l.initial.steps + boxed_count (converters_of (λ b. (goal.Converter-dyn g (b.vtable, b.value)).gives b.value) l.fn.entries);
+}
