@@ -1,3 +1,4 @@
 pub mod Turn
 pub mod Gifts
+pub mod Placing
 pub mod Listed

@@ -1,5 +1,5 @@
 -- The converters of a list.
-use Rattle.std.specs.Prelude.{ℕ, ◌+◌, List, [], ◌∷◌, map, Option}
+use Rattle.std.specs.Prelude.{ℕ, ℤ, suc, ◌+◌, List, [], ◌∷◌, map, Bool, int_lt, Option, if◌then◌else◌}
 use Rattle.std.specs.Global.{Global}
 use Rattle.std.specs.declared.dyn_box.DynBox.{DynBox}
 use Rattle.converter_definitions.specs.declared.facts.Facts.{Facts}
@@ -29,6 +29,23 @@ converters_of gives entries = map (λ listed. converter_of gives listed.entry) e
 abbrev pub conversion_of : {X : Type 0} {Y : X → Type 0} → (DynBox X Global Y → Giving) → ConverterList X Y → Conversion
 conversion_of gives list =
     record { converters = converters_of gives list.entries.items; objects = list.objects.items; joined = list.joined; indexed = list.indexed.items }
+
+-- the converters of entries and of a list, each with its priority
+abbrev pub listed : {X : Type 0} {Y : X → Type 0} → (DynBox X Global Y → Giving) → List (Listed X Y) → List (ℤ × Converter)
+listed gives entries = map (λ listed. (listed.priority, converter_of gives listed.entry)) entries
+
+abbrev pub listed_of : {X : Type 0} {Y : X → Type 0} → (DynBox X Global Y → Giving) → ConverterList X Y → List (ℤ × Converter)
+listed_of gives list = listed gives list.entries.items
+
+-- a converter more, behind all of equal or higher priority
+abbrev pub added : ℤ × Converter → List (ℤ × Converter) → List (ℤ × Converter)
+added next [] = next ∷ []
+added next (other ∷ rest) = if int_lt other.0 next.0 then next ∷ other ∷ rest else other ∷ added next rest
+
+-- how many there are before the first of a lower priority
+abbrev pub place_behind : ℤ → List (ℤ × Converter) → ℕ
+place_behind priority [] = 0
+place_behind priority (other ∷ rest) = if int_lt other.0 priority then 0 else suc (place_behind priority rest)
 
 -- how many of the converters are a product's
 abbrev pub boxed_count : List Converter → ℕ

@@ -94,4 +94,11 @@ impl Collected {
         self.add(given)?;
         Ok(())
     }
+
+    /// The layers alone.
+    pub(crate) fn into_layers(self) -> Vec<Layer>
+        ensures { result.items ≡ (made_view self).layers }
+    {
+        self.layers
+    }
 }

@@ -5,6 +5,8 @@ pub mod consumables;
 pub mod converter;
 mod filling;
 mod gift;
+pub mod layers;
 pub mod list;
+mod order;
 pub mod shaping;
 mod stock;

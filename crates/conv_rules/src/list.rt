@@ -1,8 +1,9 @@
 //! The list of converters.
-ghost use Rattle.std.specs.Prelude.{◌≡◌, []};
-ghost use Rattle.conv_rules.specs.Listed.{conversion_of};
+ghost use Rattle.std.specs.Prelude.{◌≡◌, ◌≤◌, [], length, OnOk, OnErr};
+ghost use Rattle.conv_rules.specs.Listed.{added, converter_of, conversion_of, listed, listed_of, place_behind};
 
 use crate::converter::Converter;
+use ck_base::NoMemory;
 use ck_base::name::Name;
 use ck_base::priority::Priority;
 use converter_definitions::stock::StockConverter;
@@ -49,4 +50,28 @@ impl ConverterList {
             indexed,
         }
     }
+
+    /// Adds a converter behind all of equal or higher priority. It answers `NoMemory` alone beside Ok, and then nothing has changed.
+    pub fn add(&mut self, priority: Priority, entry: Entry) -> Result<(), NoMemory>
+        ensures ok { OnOk result (listed_of (λ object. gives object) self.new ≡ added (priority, converter_of (λ object. gives object) entry) (listed_of (λ object. gives object) self.old)) }
+        ensures err { OnErr result (listed_of (λ object. gives object) self.new ≡ listed_of (λ object. gives object) self.old) }
+        ensures others { record (conversion_of (λ object. gives object) self.new) { converters = [] } ≡ record (conversion_of (λ object. gives object) self.old) { converters = [] } }
+    {
+        let place = place_behind(self.entries.as_slice(), priority);
+        self.entries.insert(place, Listed { priority, entry })?;
+        Ok(())
+    }
+}
+
+/// The place behind all converters of equal or higher priority, from the front on.
+fn place_behind(entries: &[Listed], priority: Priority) -> usize
+    ensures place { result ≡ place_behind priority (listed (λ object. gives object) entries.now) }
+    ensures inside { result ≤ length entries.now }
+{
+    for (place, other) in entries.iter().enumerate() {
+        if other.priority < priority {
+            return place;
+        }
+    }
+    entries.len()
 }
