@@ -1,5 +1,5 @@
 //! What is left of an element for converters to consume.
-ghost use Rattle.std.specs.Prelude.{◌≡◌, ◌++◌, OnOk, IfOk, not};
+ghost use Rattle.std.specs.Prelude.{◌≡◌, ◌++◌, OnOk, IfOk, not, if◌then◌else◌};
 ghost use Rattle.std.specs.List.{list_any};
 ghost use Rattle.converter_definitions.specs.Facts.{same_key, all_keys, attribute_keys, is_left, are_left, left_without, left_without_all};
 ghost use Rattle.converter_definitions.specs.Gives.{insert_keys};
@@ -62,15 +62,27 @@ impl Consumables {
         was_left
     }
 
+    /// Takes these keys away where each of them is left, and answers whether it was so. It takes no memory.
+    pub fn take_all(&mut self, keys: &[Key]) -> bool
+        ensures were_left { result ≡ are_left self.old keys.now }
+        ensures left { self.new ≡ (if are_left self.old keys.now then left_without_all keys.now self.old else self.old) }
+    {
+        if !self.has_all(keys) {
+            return false;
+        }
+        self.remove_all(keys);
+        true
+    }
+
     /// Whether each of these keys is left.
-    pub(crate) fn has_all(&self, keys: &[Key]) -> bool
+    fn has_all(&self, keys: &[Key]) -> bool
         ensures { result ≡ are_left self.now keys.now }
     {
         keys.iter().all(|key| self.has(key))
     }
 
     /// Takes these keys away.
-    pub(crate) fn take_all(&mut self, keys: &[Key])
+    fn remove_all(&mut self, keys: &[Key])
         ensures { self.new ≡ left_without_all keys.now self.old }
     {
         self.left.retain(|other| !contains(keys, other));

@@ -87,11 +87,9 @@ impl Collected {
         let Some(Gift { keys, given }) = gift else {
             return Ok(());
         };
-        if !self.left.has_all(keys.as_slice()) {
-            return Ok(());
+        if self.left.take_all(keys.as_slice()) {
+            self.add(given)?;
         }
-        self.left.take_all(keys.as_slice());
-        self.add(given)?;
         Ok(())
     }
 

@@ -10,3 +10,5 @@ pub mod list;
 mod order;
 pub mod shaping;
 mod stock;
+#[cfg(test)]
+mod tests;
