@@ -1,6 +1,6 @@
 -- A shape stays a shape where its attributes change.
-use Rattle.std.specs.Prelude.{◌≡◌, ◌+◌, nat_le, max, List, [], ◌∷◌, map, Bool, true, ◌&&◌}
-use Rattle.std.proofs.Common.{refl, ap, sym, ◌∙◌}
+use Rattle.std.specs.Prelude.{◌≡◌, ◌+◌, nat_le, max, List, [], ◌∷◌, map, ◌&&◌}
+use Rattle.std.proofs.Common.{refl, ap}
 use Rattle.converter_definitions.specs.declared.kind.ShapeKind.{ShapeKind}
 use Rattle.converter_definitions.specs.declared.kind.ShapeKind.TheVariants.{Container, Empty, Ui}
 use Rattle.converter_definitions.specs.Form.{Form, Forms, slot, text, element, none, more, forms_of, form_depth, inner_depth}

@@ -1,6 +1,5 @@
 -- What converters give in the program, as the definitions have it.
 use Rattle.std.specs.Prelude.{Option, option_map}
-use Rattle.view_definitions.specs.Layer.{Layer}
 use Rattle.converter_definitions.specs.Gives as meant
 use Rattle.conv_rules.specs.declared.gift.Given.{Given}
 use Rattle.conv_rules.specs.declared.gift.Given.TheVariants as given
