@@ -1,0 +1,33 @@
+-- What is read of a JSON text, for worked rows.
+use Rattle.std.specs.Prelude.{ℕ, ℤ, List, [], Bool, Result}
+use Rattle.serde_json.specs.Find.{as_array}
+use Rattle.json_forms.specs.declared.fault.FormFault.{FormFault}
+use Rattle.json_forms.specs.Form.{◌>>=◌, or_bad, json_of}
+use Rattle.converter_definitions.specs.declared.pattern.Pattern.{Pattern}
+use Rattle.converter_definitions.specs.Form.{Form}
+use Rattle.converter_definitions.specs.Pattern.{Patterns}
+use Rattle.converter_read.specs.declared.plan.ConverterPlan.{ConverterPlan}
+use Rattle.converter_read.specs.PatternForm.{pattern_at}
+use Rattle.converter_read.specs.PriorityForm.{priority_field}
+use Rattle.converter_read.specs.ShapeForm.{shape_at}
+use Rattle.converter_read.specs.ConverterForm.{converter_at, converters_at}
+
+-- a converter, and a list of them
+abbrev pub converter_in : Bool → List ℕ → Result ConverterPlan FormFault
+converter_in indexes text = json_of text >>= converter_at indexes []
+
+abbrev pub converters_in : Bool → List ℕ → Result (List ConverterPlan) FormFault
+converters_in indexes text = do
+  d ← json_of text
+  items ← or_bad [] (as_array d)
+  converters_at indexes [] 0 items
+
+-- a pattern, a shape, and the priority of an object
+abbrev pub pattern_in : Bool → List ℕ → Result Pattern FormFault
+pattern_in indexes text = json_of text >>= pattern_at indexes []
+
+abbrev pub shape_in : Bool → List ℕ → Result (Form Patterns) FormFault
+shape_in indexes text = json_of text >>= shape_at indexes []
+
+abbrev pub priority_in : List ℕ → Result ℤ FormFault
+priority_in text = json_of text >>= priority_field []

@@ -1,0 +1,13 @@
+//! Reading the converters of a settings file: their grammar, with the first place that breaks it, and its reader.
+#![tactic(auto)]
+
+pub mod converters;
+mod examples;
+mod patterns;
+pub mod plan;
+pub mod plan_names;
+mod priorities;
+mod shapes;
+#[cfg(test)]
+mod tests;
+mod views;

@@ -1,0 +1,39 @@
+//! What a list of converters says.
+use ck_base::name::Name;
+use ck_base::priority::Priority;
+use converter_definitions::stock::StockConverter;
+
+/// A converter of the settings and how early it comes.
+#[derive(Debug, Drop)]
+pub struct ConverterPlan {
+    pub priority: Priority,
+    pub entry: PlanEntry,
+}
+
+/// A converter of the settings.
+#[derive(Debug, Drop)]
+pub enum PlanEntry {
+    /// One that the settings describe.
+    Stock(StockConverter),
+    /// One of the product, by its name; where it looks at the index of an element, with the name of these elements.
+    Boxed { name: Name, index: Option<Name> },
+}
+
+/// The kinds of converters in the settings. (After the names of CKEditor 5's conversion helpers.)
+#[derive(Clone, Copy, Debug)]
+pub(crate) enum ConverterKind {
+    /// `elementToElement`
+    Element,
+    /// `elementToStructure`
+    Structure,
+    /// `attributeToElement`
+    AttributeElement,
+    /// `attributeToAttribute`
+    Attribute,
+    /// `markerToHighlight`
+    Highlight,
+    /// `markerToElement`
+    Leaf,
+    /// A converter of the product.
+    Custom,
+}
