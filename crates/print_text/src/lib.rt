@@ -4,6 +4,4 @@
 pub mod marks;
 pub mod model;
 pub mod refusals;
-#[cfg(test)]
-mod tests;
 pub mod view;
