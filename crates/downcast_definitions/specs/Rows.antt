@@ -1,11 +1,12 @@
 -- The rows of a document, and the view that they nest to.
-use Rattle.std.specs.Prelude.{ℕ, ◌+◌, List, [], ◌∷◌, ◌++◌, Some, None, unwrap_or, if◌then◌else◌, codes}
+use Rattle.std.specs.Prelude.{ℕ, ◌+◌, List, [], ◌∷◌, ◌++◌, Option, Some, None, unwrap_or, if◌then◌else◌, codes}
 use Rattle.item_definitions.specs.Item.{Item, Items, Attributes, items_of}
 use Rattle.item_definitions.specs.Item as items
 use Rattle.document_definitions.specs.Document.{Document}
 use Rattle.document_definitions.specs.Markers.{covering}
 use Rattle.schema_definitions.specs.Names.{has}
-use Rattle.view_definitions.specs.Node.{ViewNode, text}
+use Rattle.view_definitions.specs.Node.{ViewNode}
+use Rattle.view_definitions.specs.Node as nodes
 use Rattle.view_definitions.specs.Layer.{Layer}
 use Rattle.view_definitions.specs.Row.{Entry, item, character, nest}
 use Rattle.converter_definitions.specs.declared.kind.ShapeKind.TheVariants.{Container}
@@ -14,7 +15,7 @@ use Rattle.converter_definitions.specs.Form.{slot, element, none, more}
 use Rattle.converter_definitions.specs.Views.{filled}
 use Rattle.converter_definitions.specs.Gives.{Conversion, Converted, converted}
 use Rattle.converter_definitions.specs.Layers.{character_layers, object_layers}
-use Rattle.downcast_definitions.specs.Scene.{Scene, scene_of, boundary}
+use Rattle.downcast_definitions.specs.Scene.{Numbers, Scene, numbered_scene, scene_of, boundary}
 
 -- an element counts among the elements of its parent, a character doesn't
 abbrev pub elements_in : Item → ℕ
@@ -41,13 +42,22 @@ element_layers scene path name own =
 
 -- the first of the nodes that a shape is
 abbrev pub only : List ViewNode → ViewNode
-only [] = text []
-only (node ∷ nodes) = node
+only [] = nodes.text []
+only (node ∷ rest) = node
 
--- the entry of an element as this shape, with its own row in the slot
-abbrev pub element_entry : Scene → List ℕ → List ℕ → Converted → List Entry → Entry
-element_entry scene path name made row =
-    record { content = item (only (filled (nest row) made.form)); layers = element_layers scene path name made.layers }
+-- an element with this number; a text stays
+abbrev pub with_number : Option ℕ → ViewNode → ViewNode
+with_number number (nodes.text scalars) = nodes.text scalars
+with_number number (nodes.element head children) = nodes.element (record head { number = number }) children
+
+-- the node of an element as this shape, with its own row in the slot
+abbrev pub element_node : Option ℕ → Converted → List Entry → ViewNode
+element_node number made row = with_number number (only (filled (nest row) made.form))
+
+-- its entry
+abbrev pub element_entry : Scene → List ℕ → ℕ → List ℕ → Converted → List Entry → Entry
+element_entry scene path id name made row =
+    record { content = item (element_node (scene.numbers id) made row); layers = element_layers scene path name made.layers }
 
 abbrev mutual
   -- the entry of the item at a path
@@ -55,7 +65,7 @@ abbrev mutual
   entry_of scene parent path before (items.character scalar attributes) =
       record { content = character scalar; layers = character_layers scene.conversion attributes (covering path scene.markers) }
   entry_of scene parent path before (items.element id name attributes children) =
-      element_entry scene path name (shape_at scene.conversion parent before name attributes) (inner_row scene name path 0 0 children)
+      element_entry scene path id name (shape_at scene.conversion parent before name attributes) (inner_row scene name path 0 0 children)
 
   -- the row of items from an offset on, before the first of which this many elements stand: each boundary, and behind it the item
   pub inner_row : Scene → List ℕ → List ℕ → ℕ → ℕ → Items → List Entry
@@ -67,6 +77,11 @@ abbrev mutual
 -- the row of the items of the element at a path
 abbrev pub row_of : Scene → List ℕ → List ℕ → List Item → List Entry
 row_of scene parent path list = inner_row scene parent path 0 0 (items_of list)
+
+-- the view of a document whose view elements have these numbers
+abbrev pub numbered_downcast : Numbers → Conversion → Document → List ViewNode
+numbered_downcast numbers conversion document =
+    nest (row_of (numbered_scene numbers conversion document) (codes "$root") [] document.items)
 
 -- the view of a document, without numbers and counts of changes
 abbrev pub downcast : Conversion → Document → List ViewNode

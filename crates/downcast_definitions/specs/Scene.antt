@@ -20,11 +20,20 @@ pub record Caret : Type 0 where
   pub at : List ℕ
   pub layers : List Layer
 
--- the converters, the markers, and the caret, if there is one
+-- the number of the view element of an element of the document, by the element's id: None where it has none
+abbrev pub Numbers : Type 0
+Numbers = ℕ → Option ℕ
+
+-- no numbers
+abbrev pub unnumbered : Numbers
+unnumbered id = None
+
+-- the converters, the markers, the caret, if there is one, and the numbers of view elements
 pub record Scene : Type 0 where
   pub conversion : Conversion
   pub markers : Markers
   pub caret : Option Caret
+  pub numbers : Numbers
 
 -- the names of the markers that start before a position and end behind it
 abbrev pub strictly_around : List ℕ → Markers → List (List ℕ)
@@ -46,8 +55,13 @@ caret_of conversion document =
     let plain = typed_layers conversion document.markers at (natural document.items document.selection) in
     if is_collapsed document.selection.range && not (same_layers layers plain) then Some (record { at = at; layers = layers }) else None
 
+-- a document with its view elements numbered
+abbrev pub numbered_scene : Numbers → Conversion → Document → Scene
+numbered_scene numbers conversion document =
+    record { conversion = conversion; markers = document.markers; caret = caret_of conversion document; numbers = numbers }
+
 abbrev pub scene_of : Conversion → Document → Scene
-scene_of conversion document = record { conversion = conversion; markers = document.markers; caret = caret_of conversion document }
+scene_of conversion document = numbered_scene unnumbered conversion document
 
 -- the UI element of a marker's end
 abbrev pub leaf_node : Leaf → ViewNode

@@ -114,6 +114,21 @@ seen_in scene parent path list (offset ∷ []) = boundary_place scene parent pat
 seen_in scene parent path list (index ∷ next ∷ rest) =
     in_element scene parent path list index (λ name inner. seen_in scene name (path ++ index ∷ []) inner (next ∷ rest)) (slice_get list index)
 
+abbrev pub in_children : (List ℕ → List Item → List ℕ) → Option Item → List ℕ
+in_children inner None = []
+in_children inner (Some (items.character scalar attributes)) = []
+in_children inner (Some (items.element id name attributes children)) = inner name (list_of children)
+
+-- where a position in these items is seen in the content of its own parent
+abbrev pub place_in : Scene → List ℕ → List ℕ → List Item → List ℕ → List ℕ
+place_in scene parent path list [] = []
+place_in scene parent path list (offset ∷ []) = boundary_place scene parent path list offset
+place_in scene parent path list (index ∷ next ∷ rest) =
+    in_children (λ name inner. place_in scene name (path ++ index ∷ []) inner (next ∷ rest)) (slice_get list index)
+
+abbrev pub content_place : Conversion → Document → List ℕ → List ℕ
+content_place conversion document position = place_in (scene_of conversion document) (codes "$root") [] document.items position
+
 -- where a position of a document is seen
 abbrev pub seen : Conversion → Document → List ℕ → List ℕ
 seen conversion document position = seen_in (scene_of conversion document) (codes "$root") [] document.items position
