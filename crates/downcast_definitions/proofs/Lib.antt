@@ -1,3 +1,6 @@
 pub mod Marks
 pub mod Entries
 pub mod Means
+pub mod Boundaries
+pub mod Slots
+pub mod Items

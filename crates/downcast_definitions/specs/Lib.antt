@@ -2,5 +2,6 @@ pub mod Scene
 pub mod Rows
 pub mod Place
 pub mod Seen
+pub mod Shown
 pub mod Meant
 pub mod Sample
