@@ -4,3 +4,4 @@ pub mod Means
 pub mod Boundaries
 pub mod Slots
 pub mod Items
+pub mod Inverse

@@ -1,0 +1,17 @@
+//! What holds of every document: each function is a law, which its clauses state.
+ghost use Rattle.std.specs.Prelude.{◌≡◌, ℕ, List, Some};
+ghost use Rattle.item_definitions.specs.Position.{IsIn};
+ghost use Rattle.document_definitions.specs.Document.{Document};
+ghost use Rattle.converter_definitions.specs.Gives.{Conversion};
+ghost use Rattle.downcast_definitions.specs.Seen.{seen};
+ghost use Rattle.downcast_definitions.specs.Meant.{meant};
+ghost use Rattle.downcast_definitions.specs.Shown.{HasShapes, IsShown};
+
+/// The place of the view where a position is seen means that position, if the position is in no element without a slot: what the view shows
+/// of it isn't lost. Each element of the document has to stand as a shape. (After `Mapper` of CKEditor 5, whose `toViewPosition` and
+/// `toModelPosition` are inverse.)
+pub fn seen_means_itself()
+    ensures { (conversion : Conversion) (document : Document) (position : List ℕ)
+        → HasShapes conversion document → IsIn document.items position → IsShown conversion document position
+        → meant conversion document (seen conversion document position) ≡ Some position }
+{}
