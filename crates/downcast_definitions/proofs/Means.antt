@@ -31,7 +31,7 @@ abbrev pub Reads : Inners → (List ℕ → Option (List ℕ)) → ℕ → List 
 Reads inners reads offset nodes passed = ReadsFrom inners reads offset nodes passed.nodes passed.in_text
 
 -- behind an element
-reads-node : (inners : Inners) (reads : List ℕ → Option (List ℕ)) (offset : ℕ) (head : Head) (children : ViewNodes) (nodes : List ViewNode) (count : ℕ) (was : Option ℕ)
+pub reads-node : (inners : Inners) (reads : List ℕ → Option (List ℕ)) (offset : ℕ) (head : Head) (children : ViewNodes) (nodes : List ViewNode) (count : ℕ) (was : Option ℕ)
     → ReadsFrom inners reads offset (element head children ∷ nodes) count was
     → ReadsFrom inners reads (offset + model_length (element head children)) nodes (count + 1) None
 reads-node inners reads offset head children nodes count None h = λ at index rest e. h at (suc index) rest (omega (arith, e))
@@ -52,7 +52,7 @@ character-joins-behind scalars scalar (text others ∷ nodes) = ap (λ all. text
 character-joins-behind scalars scalar (element head children ∷ nodes) = refl
 
 -- behind a character
-reads-character : (inners : Inners) (reads : List ℕ → Option (List ℕ)) (offset scalar : ℕ) (nodes : List ViewNode) (count : ℕ) (was : Option ℕ)
+pub reads-character : (inners : Inners) (reads : List ℕ → Option (List ℕ)) (offset scalar : ℕ) (nodes : List ViewNode) (count : ℕ) (was : Option ℕ)
     → ReadsFrom inners reads offset (character_before scalar nodes) count was
     → Reads inners reads (offset + 1) nodes (character_more count was)
 reads-character inners reads offset scalar nodes count None h = record {
@@ -75,7 +75,7 @@ reads-character inners reads offset scalar nodes count (Some len) h = record {
 }
 
 -- in the attribute element of a layer
-reads-within : (inners : Inners) (reads : List ℕ → Option (List ℕ)) (offset : ℕ) (layer : Layer) (inside nodes : List ViewNode) (count : ℕ) (was : Option ℕ)
+pub reads-within : (inners : Inners) (reads : List ℕ → Option (List ℕ)) (offset : ℕ) (layer : Layer) (inside nodes : List ViewNode) (count : ℕ) (was : Option ℕ)
     → ReadsFrom inners reads offset (in_layer layer inside ∷ nodes) count was
     → Reads inners (λ place. reads (count ∷ place)) offset inside none_passed
 reads-within inners reads offset layer inside nodes count None h = λ at index rest e.
@@ -94,7 +94,7 @@ reads-counted : (inners : Inners) (reads : List ℕ → Option (List ℕ)) (offs
 reads-counted inners reads offset counts is nodes passed e h = subst (λ o. Reads inners reads (offset + o) nodes passed) e h
 
 -- behind a content
-reads-behind : (inners : Inners) (reads : List ℕ → Option (List ℕ)) (offset : ℕ) (content : Content) (nodes : List ViewNode) (passed : Passed) → may_stand content ≡ true
+pub reads-behind : (inners : Inners) (reads : List ℕ → Option (List ℕ)) (offset : ℕ) (content : Content) (nodes : List ViewNode) (passed : Passed) → may_stand content ≡ true
     → Reads inners reads offset (content_before content nodes) passed → Reads inners reads (offset + counted content) nodes (behind_content content passed)
 reads-behind inners reads offset (leaf (text scalars)) nodes passed e h = cc
 reads-behind inners reads offset (leaf (element head children)) nodes passed e h =
@@ -108,7 +108,7 @@ reads-behind inners reads offset (character scalar) nodes passed e h = reads-cha
 reads-behind inners reads offset caret nodes passed e h = reads-at inners reads offset 0 nodes passed refl h
 
 -- whether nodes begin with a text
-abbrev starts_text : List ViewNode → Bool
+abbrev pub starts_text : List ViewNode → Bool
 starts_text [] = false
 starts_text (text scalars ∷ nodes) = true
 starts_text (element head children ∷ nodes) = false
@@ -153,7 +153,7 @@ joined-text inners offset len scalars (text others ∷ nodes) e =
 joined-text inners offset len scalars (element head children ∷ nodes) e = in_text-there offset (length scalars) len (omega (arith, e))
 
 -- an entry that is no node is found at the place before which the items are that were passed
-place-base : (inners : Inners) (reads : List ℕ → Option (List ℕ)) (offset : ℕ) (nodes : List ViewNode) (count : ℕ) (was : Option ℕ) (behind : Bool)
+pub place-base : (inners : Inners) (reads : List ℕ → Option (List ℕ)) (offset : ℕ) (nodes : List ViewNode) (count : ℕ) (was : Option ℕ) (behind : Bool)
     → (behind ≡ true → starts_text nodes ≡ true) → ReadsFrom inners reads offset nodes count was
     → reads (as_place (record { nodes = count; in_text = was }) behind) ≡ Some (offset ∷ [])
 place-base inners reads offset nodes count None true s h = h count 0 (0 ∷ []) (omega arith) ∙ first-text inners offset nodes (s refl)
@@ -171,7 +171,7 @@ item-inside inners offset empty around inside e = refl
 item-inside inners offset ui around inside e = cc
 
 -- a place in the node of an item is one in the item
-node-base : (inners : Inners) (reads : List ℕ → Option (List ℕ)) (offset : ℕ) (node : ViewNode) (nodes : List ViewNode) (count : ℕ) (was : Option ℕ) (index : ℕ) (rest : List ℕ)
+pub node-base : (inners : Inners) (reads : List ℕ → Option (List ℕ)) (offset : ℕ) (node : ViewNode) (nodes : List ViewNode) (count : ℕ) (was : Option ℕ) (index : ℕ) (rest : List ℕ)
     → is_element is_item_kind node ≡ true → ReadsFrom inners reads offset (node ∷ nodes) count was
     → reads (count ∷ index ∷ rest) ≡ in_item inners offset (index ∷ rest)
 node-base inners reads offset (text scalars) nodes count was index rest e h = cc
@@ -200,7 +200,7 @@ module _ (inners : Inners) (content : Content) (found : Found) (tail : List ℕ)
     (base : (reads : List ℕ → Option (List ℕ)) (offset : ℕ) (nodes : List ViewNode) (passed : Passed) (behind : Bool)
     → (behind ≡ true → starts_text nodes ≡ true) → Reads inners reads offset (content_before content nodes) passed
     → reads (found passed behind ++ tail) ≡ want offset) where
-  abbrev Claim : Pieces → Type 0
+  abbrev pub Claim : Pieces → Type 0
   Claim pieces =
       (number : ℕ) (passed : Passed) (offset : ℕ) (reads : List ℕ → Option (List ℕ)) → AllStand (contents pieces)
       → slice_get (contents pieces) number ≡ Some content → Reads inners reads offset (shown pieces) passed
@@ -246,7 +246,7 @@ module _ (inners : Inners) (content : Content) (found : Found) (tail : List ℕ)
     piece-means (bare next) pieces ih = bare-means next pieces ih
     piece-means (wrapped layer inner) pieces ih = wrapped-means layer inner pieces (pieces-mean inner) ih
 
-    pieces-mean : (pieces : Pieces) → Claim pieces
+    pub pieces-mean : (pieces : Pieces) → Claim pieces
     pieces-mean nothing = λ number passed offset reads s e h. cc
     pieces-mean (first piece pieces) = piece-means piece pieces (pieces-mean pieces)
 

@@ -6,6 +6,7 @@ ghost use Rattle.converter_definitions.specs.Sample.{sample, class};
 ghost use Rattle.downcast_definitions.specs.Rows.{downcast};
 ghost use Rattle.downcast_definitions.specs.Seen.{seen};
 ghost use Rattle.downcast_definitions.specs.Meant.{meant};
+ghost use Rattle.downcast_definitions.specs.Shown.{HasShapes, IsShown};
 ghost use Rattle.downcast_definitions.specs.Sample.{letters, bold, italic, both, holding, paragraph, at, document, one_paragraph, overriding, marker, made, p, strong, slanted, comment};
 
 /// Bold on `bc` and italic on `cd`: the layers nest by their identity texts.
@@ -85,4 +86,12 @@ fn hidden()
     ensures place { seen sample (document (holding 1 (codes "image") (letters [] (codes "a")) ∷ []) [] (at (0 ∷ []))) (0 ∷ 1 ∷ []) ≡ 0 ∷ [] }
     ensures inline { seen sample (one_paragraph (letters [] (codes "a") ++ (holding 2 (codes "checkbox") (letters [] (codes "b")) ∷ [])) []) (0 ∷ 1 ∷ 0 ∷ []) ≡ 0 ∷ 0 ∷ 1 ∷ [] }
     ensures meant { meant sample (document (holding 1 (codes "image") (letters [] (codes "a")) ∷ []) [] (at (0 ∷ []))) (0 ∷ 0 ∷ []) ≡ None }
+{}
+
+/// Elements that are containers or empty, each of one element of the view: a position in a container is shown, and one in an empty element
+/// isn't.
+fn shown()
+    ensures shapes { HasShapes sample (one_paragraph (letters [] (codes "a") ++ (holding 2 (codes "checkbox") (letters [] (codes "b")) ∷ [])) []) }
+    ensures in_paragraph { IsShown sample (one_paragraph (letters [] (codes "a") ++ (holding 2 (codes "checkbox") (letters [] (codes "b")) ∷ [])) []) (0 ∷ 1 ∷ []) }
+    ensures in_checkbox { IsShown sample (one_paragraph (letters [] (codes "a") ++ (holding 2 (codes "checkbox") (letters [] (codes "b")) ∷ [])) []) (0 ∷ 1 ∷ 0 ∷ []) → ⊥ }
 {}
