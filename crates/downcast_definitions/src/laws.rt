@@ -7,9 +7,8 @@ ghost use Rattle.downcast_definitions.specs.Seen.{seen};
 ghost use Rattle.downcast_definitions.specs.Meant.{meant};
 ghost use Rattle.downcast_definitions.specs.Shown.{HasShapes, IsShown};
 
-/// The place of the view where a position is seen means that position, if the position is in no element without a slot: what the view shows
-/// of it isn't lost. Each element of the document has to stand as a shape. (After `Mapper` of CKEditor 5, whose `toViewPosition` and
-/// `toModelPosition` are inverse.)
+/// The place of the view where a position is seen means that position, if the position is in no element without a slot and each element of the
+/// document stands as a shape. (After `Mapper` of CKEditor 5, whose `toViewPosition` and `toModelPosition` are inverse.)
 pub fn seen_means_itself()
     ensures { (conversion : Conversion) (document : Document) (position : List ℕ)
         → HasShapes conversion document → IsIn document.items position → IsShown conversion document position
