@@ -1,9 +1,9 @@
 -- What is read as a shape is one.
-use Rattle.std.proofs.Common.{◌≡◌, ◌<◌, ◌≤◌, ◌+◌, ℕ, zero, suc, List, [], ◌∷◌, Bool, true, false, ◌&&◌, ◌==◌, Option, Some, None, Result, Ok, Err, if◌then◌else◌, refl, sym, ◌∙◌, subst, arith}
+use Rattle.std.proofs.Common.{◌≡◌, ◌<◌, ◌≤◌, ◌+◌, ℕ, zero, suc, List, [], ◌∷◌, Bool, true, false, ◌&&◌, ◌==◌, Option, Some, None, Result, Ok, Err, if◌then◌else◌, refl, subst, arith}
 use Rattle.std.specs.Prelude.{nat_le, nat_lt, is_some, codes, ⊤}
 use Rattle.std.proofs.lemmas.Bool.{ltb-true, eqb-true, le-leb, and_parts, and_from}
 use Rattle.std.specs.Str.{chars}
-use Rattle.serde_json.specs.Data.{Data, null, boolean, number, string, array, object, Items, no_items, item, Members}
+use Rattle.serde_json.specs.Data.{Data, null, boolean, number, string, array, object, Items, no_items, item}
 use Rattle.serde_json.specs.Find.{get, as_array}
 use Rattle.json_forms.specs.declared.fault.FormFault.{FormFault}
 use Rattle.json_forms.specs.declared.fault.FormFault.TheVariants.{BadField}
@@ -14,7 +14,6 @@ use Rattle.converter_definitions.specs.Form.{Form, Forms, slot, text, element, f
 use Rattle.converter_definitions.specs.Pattern.{Patterns}
 use Rattle.converter_definitions.specs.Shape.{may_stand, is_outermost, fits, fit_in, form_count, inner_count, slot_count, inner_slots, is_shape}
 use Rattle.converter_read.specs.declared.shapes.Before.{Before}
-use Rattle.converter_read.specs.declared.shapes.Head.{Head}
 use Rattle.converter_read.specs.ShapeForm.{Reader, takes_slot, takes_text, takes_element, stands, behind, inside, nodes_at, children_if, children_at, slot_field, slot_at, text_at, head_at, element_at, object_node_at, node_of, no_reader, node_at}
 
 -- what a step that gives something went through

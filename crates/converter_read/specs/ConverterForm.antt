@@ -25,7 +25,6 @@ use Rattle.converter_definitions.specs.declared.stock.StockConverter.{StockConve
 use Rattle.converter_definitions.specs.declared.stock.StockConverter.TheVariants.{ElementToElement, ElementToStructure, AttributeToElement, AttributeToAttribute, MarkerToHighlight, MarkerToElement}
 use Rattle.converter_definitions.specs.Pattern.{is_index}
 use Rattle.converter_read.specs.declared.plan.ConverterPlan.{ConverterPlan}
-use Rattle.converter_read.specs.declared.plan.PlanEntry.{PlanEntry}
 use Rattle.converter_read.specs.declared.plan.PlanEntry.TheVariants.{Stock, Boxed}
 use Rattle.converter_read.specs.declared.plan.ConverterKind.{ConverterKind}
 use Rattle.converter_read.specs.declared.plan.ConverterKind.TheVariants.{Element, Structure, AttributeElement, Attribute, Highlight, Leaf, Custom}

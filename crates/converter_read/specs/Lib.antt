@@ -5,3 +5,4 @@ pub mod ShapeForm
 pub mod ConverterForm
 pub mod Rows
 pub mod PlanNames
+pub mod Indexed

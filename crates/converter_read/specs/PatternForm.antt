@@ -1,7 +1,7 @@
 -- The patterns of a settings file, with the first place that breaks their form. A pattern is a text or {"from":KEY}, and where the index of an
 -- element may be asked for also {"index":COUNT}. View attributes are an object of names, each with a pattern or with a text. (After the
 -- `attributes` of CKEditor 5's element definitions.)
-use Rattle.std.specs.Prelude.{ℕ, List, [], ◌∷◌, Bool, true, false, ◌&&◌, is_some, option_map, Option, Some, None, Result, Ok, Err, if◌then◌else◌, codes}
+use Rattle.std.specs.Prelude.{ℕ, List, [], ◌∷◌, Bool, ◌&&◌, is_some, option_map, Option, Some, None, Result, Ok, Err, if◌then◌else◌, codes}
 use Rattle.std.specs.Str.{chars}
 use Rattle.serde_json.specs.Data.{Data, Members, no_members, member}
 use Rattle.serde_json.specs.Find.{get, as_str, as_object}

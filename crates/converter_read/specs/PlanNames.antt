@@ -5,7 +5,6 @@ use Rattle.std.specs.Option.{option_or}
 use Rattle.std.specs.Str.{bytes_eq}
 use Rattle.ck_base.specs.declared.value.Value.{Value as AttributeValue}
 use Rattle.schema_definitions.specs.Names.{has}
-use Rattle.converter_definitions.specs.declared.stock.StockConverter.{StockConverter}
 use Rattle.converter_definitions.specs.declared.stock.StockConverter.TheVariants.{ElementToElement, ElementToStructure, AttributeToElement, AttributeToAttribute, MarkerToHighlight, MarkerToElement}
 use Rattle.converter_read.specs.declared.plan.ConverterPlan.{ConverterPlan}
 use Rattle.converter_read.specs.declared.plan.PlanEntry.{PlanEntry}

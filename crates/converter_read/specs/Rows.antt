@@ -1,5 +1,5 @@
 -- What is read of a JSON text, for worked rows.
-use Rattle.std.specs.Prelude.{ℕ, ℤ, List, [], Bool, Result}
+use Rattle.std.specs.Prelude.{ℕ, ℤ, List, [], Bool, true, Result, Ok}
 use Rattle.serde_json.specs.Find.{as_array}
 use Rattle.json_forms.specs.declared.fault.FormFault.{FormFault}
 use Rattle.json_forms.specs.Form.{◌>>=◌, or_bad, json_of}
@@ -11,6 +11,7 @@ use Rattle.converter_read.specs.PatternForm.{pattern_at}
 use Rattle.converter_read.specs.PriorityForm.{priority_field}
 use Rattle.converter_read.specs.ShapeForm.{shape_at}
 use Rattle.converter_read.specs.ConverterForm.{converter_at, converters_at}
+use Rattle.converter_read.specs.Indexed.{indexed_names}
 
 -- a converter, and a list of them
 abbrev pub converter_in : Bool → List ℕ → Result ConverterPlan FormFault
@@ -21,6 +22,12 @@ converters_in indexes text = do
   d ← json_of text
   items ← or_bad [] (as_array d)
   converters_at indexes [] 0 items
+
+-- the names of the elements that are counted for a list of converters that may ask for an index
+abbrev pub counted_in : List ℕ → Result (List (List ℕ)) FormFault
+counted_in text = do
+  plans ← converters_in true text
+  Ok (indexed_names plans)
 
 -- a pattern, a shape, and the priority of an object
 abbrev pub pattern_in : Bool → List ℕ → Result Pattern FormFault

@@ -5,7 +5,7 @@
 --     the attribute element of a marker: {"name":NAME,"attributes":TEXTS,"priority":NUMBER,"id":NAME}, by the name of `span` where there is none
 --     the UI element of a marker: {"name":NAME,"attributes":TEXTS}
 -- All but the first field are optional. (After `ElementDefinition`, `HighlightDescriptor` and the view of `attributeToAttribute` of CKEditor 5.)
-use Rattle.std.specs.Prelude.{ℕ, List, [], ◌∷◌, Bool, true, false, Option, Some, None, Result, Ok, if◌then◌else◌, codes, option_and_then, option_map, unwrap_or, ⊤}
+use Rattle.std.specs.Prelude.{ℕ, List, [], ◌∷◌, Bool, true, false, Option, Some, None, Result, Ok, if◌then◌else◌, codes, option_and_then, unwrap_or, ⊤}
 use Rattle.std.specs.Str.{bytes_eq}
 use Rattle.serde_json.specs.Data.{Data}
 use Rattle.serde_json.specs.Find.{get, as_str}

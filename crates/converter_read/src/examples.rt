@@ -8,7 +8,7 @@ ghost use Rattle.converter_definitions.specs.declared.stock.StockConverter.TheVa
 ghost use Rattle.converter_definitions.specs.Form.{slot, text, element, none, more};
 ghost use Rattle.converter_read.specs.declared.plan.PlanEntry.TheVariants.{Boxed};
 ghost use Rattle.converter_read.specs.ConverterForm.{stock_plan};
-ghost use Rattle.converter_read.specs.Rows.{converter_in, converters_in, shape_in, pattern_in, priority_in};
+ghost use Rattle.converter_read.specs.Rows.{converter_in, converters_in, shape_in, pattern_in, priority_in, counted_in};
 
 /// What elements become.
 pub fn elements()
@@ -48,6 +48,15 @@ pub fn others()
         ≡ Ok (record { priority = pos 0; entry = Boxed (codes "mention") (Some (codes "li")) }) }
     ensures list { converters_in false (codes "[{\"kind\":\"custom\",\"name\":\"a\"},{\"kind\":\"custom\",\"name\":\"b\"}]")
         ≡ Ok (record { priority = pos 0; entry = Boxed (codes "a") None } ∷ record { priority = pos 0; entry = Boxed (codes "b") None } ∷ []) }
+{}
+
+/// The names of the elements that are counted for a list of converters.
+pub fn counted()
+    ensures none { counted_in (codes "[{\"kind\":\"elementToElement\",\"model\":\"p\",\"view\":{\"name\":\"p\"}},{\"kind\":\"custom\",\"name\":\"a\"}]") ≡ Ok [] }
+    ensures elements { counted_in (codes "[{\"kind\":\"elementToElement\",\"model\":\"p\",\"view\":{\"name\":\"p\",\"attributes\":{\"a\":\"x\",\"n\":{\"index\":1}}}},{\"kind\":\"elementToStructure\",\"model\":\"q\",\"view\":{\"name\":\"q\",\"children\":[{\"slot\":true},{\"name\":\"b\",\"attributes\":{\"n\":{\"index\":0}}}]}}]")
+        ≡ Ok (codes "p" ∷ codes "q" ∷ []) }
+    ensures once { counted_in (codes "[{\"kind\":\"custom\",\"name\":\"a\",\"index\":\"q\"},{\"kind\":\"attributeToAttribute\",\"element\":\"p\",\"model\":\"m\",\"view\":{\"key\":\"n\",\"value\":{\"index\":1}}},{\"kind\":\"custom\",\"name\":\"b\",\"index\":\"q\"}]")
+        ≡ Ok (codes "q" ∷ codes "p" ∷ []) }
 {}
 
 /// The first place that breaks the form of a converter.

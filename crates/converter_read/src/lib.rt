@@ -3,6 +3,7 @@
 
 pub mod converters;
 mod examples;
+pub mod indexed;
 mod patterns;
 pub mod plan;
 pub mod plan_names;

@@ -9,7 +9,7 @@ use ck_base::name::Name;
 use converter_definitions::stock::StockConverter;
 
 /// Whether a name is among the names.
-fn has(names: &[Name], name: &Name) -> bool
+pub fn has(names: &[Name], name: &Name) -> bool
     ensures { result ≡ has names.now name.now }
 {
     for other in names {
@@ -180,7 +180,7 @@ fn converts(plans: &[ConverterPlan], name: &Name) -> bool
 }
 
 /// Whether a name begins with `$`.
-fn is_reserved(name: &Name) -> bool
+pub fn is_reserved(name: &Name) -> bool
     ensures { result ≡ is_reserved name.now }
 {
     matches!(name.as_str().as_bytes(), [b'$', ..])
