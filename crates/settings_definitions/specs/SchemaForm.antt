@@ -5,12 +5,12 @@
 -- A check is {"child":NAME,"endsWith":[NAME,..],"answer":TRUTH} or {"attribute":NAME,"endsWith":[NAME,..],"answer":TRUTH}.
 -- An object is tested field by field in that order, and then for fields that aren't named. (After `SchemaItemDefinition`, `addChildCheck` and
 -- `addAttributeCheck` of CKEditor 5's engine.)
-use Rattle.std.specs.Prelude.{ℕ, ◌+◌, List, [], ◌∷◌, Bool, true, false, is_none, Option, Some, None, Result, Ok, Err, if◌then◌else◌, codes, option_and_then, ⊤}
+use Rattle.std.specs.Prelude.{ℕ, ◌+◌, List, [], ◌∷◌, Bool, true, is_none, Option, Some, None, Result, Ok, Err, if◌then◌else◌, codes, ⊤}
 use Rattle.serde_json.specs.Data.{Data, Items, no_items, item}
-use Rattle.serde_json.specs.Find.{get, as_array}
+use Rattle.serde_json.specs.Find.{get}
 use Rattle.json_forms.specs.declared.fault.FormFault.{FormFault}
 use Rattle.json_forms.specs.declared.fault.FormFault.TheVariants.{BadField}
-use Rattle.json_forms.specs.Form.{◌>>=◌, or_bad, object_at, only_fields, field_path, index_path}
+use Rattle.json_forms.specs.Form.{◌>>=◌, object_at, only_fields, field_path, index_path}
 use Rattle.json_names.specs.Names.{name_at, name_field, name_list_field, names_field, truth_field, optional_truth}
 use Rattle.schema_definitions.specs.declared.file.Entry.{Entry}
 use Rattle.schema_definitions.specs.declared.file.Subject.{Subject}

@@ -1,28 +1,36 @@
 -- A settings file:
---     {"version":1,"rounds":COUNT,"start":NAME,"schema":[ENTRY,..],"checks":[CHECK,..]}
--- `version` is 1 or 2, which say the same of these fields; `rounds` is from 1 to 1000, and 64 where it isn't there; `start` and `checks` are optional too.
-use Rattle.std.specs.Prelude.{ℕ, List, [], ◌∷◌, ◌++◌, Bool, true, false, ◌&&◌, ◌==◌, not, Option, Some, None, Result, Ok, Err, if◌then◌else◌, codes, option_and_then, option_map, unwrap_or}
+--     {"version":NUMBER,"rounds":COUNT,"start":NAME,"schema":[ENTRY,..],"checks":[CHECK,..],"converters":[CONVERTER,..]}
+-- `version` is 1 or 2; in 2 converters may ask for the index of an element, and else the two say the same. `rounds` is from 1 to 1000, and 64 where
+-- it isn't there; `start` and `checks` are optional too.
+use Rattle.std.specs.Prelude.{ℕ, List, [], ◌∷◌, ◌++◌, Bool, ◌&&◌, ◌==◌, not, Option, Some, None, Result, Ok, Err, if◌then◌else◌, codes, option_and_then, option_map, unwrap_or}
 use Rattle.std.specs.Option.{option_or}
-use Rattle.serde_json.specs.Data.{Data, Items}
+use Rattle.serde_json.specs.Data.{Data}
 use Rattle.serde_json.specs.Find.{get, as_array}
 use Rattle.json_forms.specs.declared.fault.FormFault.{FormFault}
 use Rattle.json_forms.specs.Form.{◌>>=◌, or_bad, json_of, object_at, only_fields, field_path}
 use Rattle.json_names.specs.Names.{optional_name, count_field, optional_count}
 use Rattle.schema_definitions.specs.declared.file.Entry.{Entry}
 use Rattle.schema_definitions.specs.declared.file.Check.{Check}
-use Rattle.schema_definitions.specs.Allowed.{Rules, registrations, is_registered}
+use Rattle.schema_definitions.specs.Names.{has}
+use Rattle.schema_definitions.specs.Allowed.{Rules, registrations, registered}
 use Rattle.schema_definitions.specs.Compiled.{predefined, first_repeated, first_unknown, first_bad_check}
+use Rattle.converter_read.specs.declared.plan.ConverterPlan.{ConverterPlan}
+use Rattle.converter_read.specs.ConverterForm.{converters_at}
+use Rattle.converter_read.specs.PlanNames.{is_reserved, first_unknown_item, first_unknown_custom, first_without_converter}
+use Rattle.converter_read.specs.Indexed.{indexed_names}
 use Rattle.settings_definitions.specs.declared.fault.SettingsFault.{SettingsFault}
-use Rattle.settings_definitions.specs.declared.fault.SettingsFault.TheVariants.{TwiceRegistered, UnknownItem, BadCheck}
+use Rattle.settings_definitions.specs.declared.fault.SettingsFault.TheVariants.{TwiceRegistered, UnknownItem, BadCheck, UnknownCustom, NoConverter}
 use Rattle.settings_definitions.specs.Faults.{of_form}
 use Rattle.settings_definitions.specs.SchemaForm.{entries_at, checks_at}
 
 -- what the file says
 pub record Form : Type 0 where
+  pub version : ℕ
   pub rounds : ℕ
   pub start : Option (List ℕ)
   pub entries : List Entry
   pub checks : List Check
+  pub converters : List ConverterPlan
 
 -- the field `schema`
 unfoldable pub entries_field : Data → Result (List Entry) FormFault
@@ -38,19 +46,30 @@ checks_if (Some found) = or_bad (field_path [] (codes "checks")) (as_array found
 unfoldable pub checks_field : Data → Result (List Check) FormFault
 checks_field d = checks_if (get (codes "checks") d)
 
+-- the field `converters`
+unfoldable pub converters_field : Bool → Data → Result (List ConverterPlan) FormFault
+converters_field indexes d = do
+  items ← or_bad (field_path [] (codes "converters")) (option_and_then as_array (get (codes "converters") d))
+  converters_at indexes (field_path [] (codes "converters")) 0 items
+
 abbrev pub settings_fields : List (List ℕ)
-settings_fields = codes "version" ∷ codes "rounds" ∷ codes "start" ∷ codes "schema" ∷ codes "checks" ∷ []
+settings_fields = codes "version" ∷ codes "rounds" ∷ codes "start" ∷ codes "schema" ∷ codes "checks" ∷ codes "converters" ∷ []
+
+-- in files of version 2 converters may ask for the index of an element
+abbrev pub may_count : ℕ → Bool
+may_count version = version == 2
 
 unfoldable pub form_at : Data → Result Form FormFault
 form_at d = do
   _ ← object_at [] d
-  _ ← count_field [] (codes "version") 1 2 d
+  version ← count_field [] (codes "version") 1 2 d
   rounds ← optional_count [] (codes "rounds") 1 1000 d
   start ← optional_name [] (codes "start") d
   entries ← entries_field d
   checks ← checks_field d
+  converters ← converters_field (may_count version) d
   _ ← only_fields [] settings_fields d
-  Ok (record { rounds = unwrap_or rounds 64; start = start; entries = entries; checks = checks })
+  Ok (record { version = version; rounds = unwrap_or rounds 64; start = start; entries = entries; checks = checks; converters = converters })
 
 -- what the file says, or the first place that breaks its form
 unfoldable pub form_of : List ℕ → Result Form FormFault
@@ -62,37 +81,56 @@ form_of bytes = do
 abbrev pub rules_of : Form → Rules
 rules_of form = record { entries = predefined ++ form.entries; checks = form.checks }
 
--- a name that begins with `$`
-abbrev pub is_reserved : List ℕ → Bool
-is_reserved [] = false
-is_reserved (byte ∷ rest) = byte == 36
+-- its registered items
+abbrev pub items_of : Form → List (List ℕ)
+items_of form = registrations (rules_of form).entries
 
--- the start, unless it is a registered item that isn't reserved
-abbrev pub unknown_start : Rules → Option (List ℕ) → Option (List ℕ)
-unknown_start rules None = None
-unknown_start rules (Some name) = if is_registered rules name && not (is_reserved name) then None else Some name
+-- the start, unless it is one of these registered items and doesn't begin with `$`
+abbrev pub unknown_start : List (List ℕ) → Option (List ℕ) → Option (List ℕ)
+unknown_start items None = None
+unknown_start items (Some name) = if has items name && not (is_reserved name) then None else Some name
+
+-- why the converters are refused beside rules that hold, where these products' converters are handed in
+abbrev pub converters_refusal : List (List ℕ) → Rules → List ConverterPlan → Option SettingsFault
+converters_refusal handed_in rules converters = option_or (option_map UnknownCustom (first_unknown_custom handed_in converters))
+    (option_map NoConverter (first_without_converter converters (registered rules)))
 
 -- why the file is refused, the first in this order; names are tested in the order of the file's fields
-unfoldable pub refusal_of : Form → Option SettingsFault
-refusal_of form = option_or (option_map TwiceRegistered (first_repeated [] (registrations (rules_of form).entries)))
-    (option_or (option_map UnknownItem (unknown_start (rules_of form) form.start))
+unfoldable pub refusal_of : List (List ℕ) → Form → Option SettingsFault
+refusal_of handed_in form = option_or (option_map TwiceRegistered (first_repeated [] (items_of form)))
+    (option_or (option_map UnknownItem (unknown_start (items_of form) form.start))
     (option_or (option_map UnknownItem (first_unknown (rules_of form)))
-    (option_map BadCheck (first_bad_check form.checks))))
+    (option_or (option_map UnknownItem (first_unknown_item (items_of form) form.converters))
+    (option_or (option_map BadCheck (first_bad_check form.checks))
+    (converters_refusal handed_in (rules_of form) form.converters)))))
 
--- the settings
+-- the settings, with the names of the elements that are counted for the converters
 pub record Settled : Type 0 where
   pub rules : Rules
+  pub version : ℕ
   pub rounds : ℕ
   pub start : Option (List ℕ)
+  pub converters : List ConverterPlan
+  pub indexed : List (List ℕ)
+
+abbrev pub settled_form : Form → Settled
+settled_form form = record {
+  rules = rules_of form;
+  version = form.version;
+  rounds = form.rounds;
+  start = form.start;
+  converters = form.converters;
+  indexed = indexed_names form.converters;
+}
 
 abbrev pub unless_refused : Form → Option SettingsFault → Result Settled SettingsFault
-unless_refused form None = Ok (record { rules = rules_of form; rounds = form.rounds; start = form.start })
+unless_refused form None = Ok (settled_form form)
 unless_refused form (Some fault) = Err fault
 
-abbrev pub settled : Result Form FormFault → Result Settled SettingsFault
-settled (Err fault) = Err (of_form fault)
-settled (Ok form) = unless_refused form (refusal_of form)
+abbrev pub settled : List (List ℕ) → Result Form FormFault → Result Settled SettingsFault
+settled handed_in (Err fault) = Err (of_form fault)
+settled handed_in (Ok form) = unless_refused form (refusal_of handed_in form)
 
--- the settings of a file, or why there are none
-unfoldable pub settings_of : List ℕ → Result Settled SettingsFault
-settings_of bytes = settled (form_of bytes)
+-- the settings of a file, where products' converters of these names are handed in, or why there are none
+unfoldable pub settings_of : List (List ℕ) → List ℕ → Result Settled SettingsFault
+settings_of handed_in bytes = settled handed_in (form_of bytes)

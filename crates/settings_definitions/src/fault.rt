@@ -17,6 +17,11 @@ pub enum SettingsFault {
     UnknownItem(Name),
     /// The first check without ancestors, counted from 1; 4294967295 stands for any larger number.
     BadCheck(u32),
+    /// The first name of a product's converter that wasn't handed in, or that a converter before it has.
+    UnknownCustom(Name),
+    /// The first registered item, in the order of their bytes, that doesn't begin with `$` and that no converter makes an element of wherever it
+    /// stands.
+    NoConverter(Name),
     /// Memory ran out.
     NoMemory,
 }
