@@ -1,6 +1,13 @@
 -- What was read of a settings file.
-use Rattle.config_read.specs.declared.settings.FileForm.{FileForm}
+use Rattle.config_read.specs.declared.file_form.FileForm.{FileForm}
 use Rattle.settings_definitions.specs.Settings.{Form}
 
 abbrev pub form_view : FileForm → Form
-form_view form = record { rounds = form.rounds; start = form.start; entries = form.schema.entries.items; checks = form.schema.checks.items }
+form_view form = record {
+  version = form.version;
+  rounds = form.rounds;
+  start = form.start;
+  entries = form.schema.entries.items;
+  checks = form.schema.checks.items;
+  converters = form.converters.items;
+}

@@ -11,4 +11,11 @@ Refuses (Ok x) reason = reason ≡ None
 Refuses (Err fault) reason = fault ≢ NoMemory → reason ≡ Some fault
 
 abbrev pub settings_view : Settings → Settled
-settings_view settings = record { rules = settings.schema; rounds = settings.rounds; start = settings.start }
+settings_view settings = record {
+  rules = settings.schema;
+  version = settings.version;
+  rounds = settings.rounds;
+  start = settings.start;
+  converters = settings.converters.items;
+  indexed = settings.indexed.items;
+}

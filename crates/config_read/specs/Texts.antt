@@ -3,7 +3,7 @@ use Rattle.std.specs.Prelude.{ℕ, List, ◌++◌, codes}
 use Rattle.std.specs.Fmt.{decimal}
 use Rattle.machine_definitions.specs.Texts.{quoted_text}
 use Rattle.settings_definitions.specs.declared.fault.SettingsFault.{SettingsFault}
-use Rattle.settings_definitions.specs.declared.fault.SettingsFault.TheVariants.{NotJson, BadField, TwiceRegistered, UnknownItem, BadCheck, NoMemory}
+use Rattle.settings_definitions.specs.declared.fault.SettingsFault.TheVariants.{NotJson, BadField, TwiceRegistered, UnknownItem, BadCheck, UnknownCustom, NoConverter, NoMemory}
 
 -- want of memory is never printed
 unfoldable pub settings_text : SettingsFault → List ℕ
@@ -12,4 +12,6 @@ settings_text (BadField path) = codes "BadField " ++ quoted_text path
 settings_text (TwiceRegistered name) = codes "TwiceRegistered " ++ name
 settings_text (UnknownItem name) = codes "UnknownItem " ++ name
 settings_text (BadCheck count) = codes "BadCheck " ++ decimal count
+settings_text (UnknownCustom name) = codes "UnknownCustom " ++ name
+settings_text (NoConverter name) = codes "NoConverter " ++ name
 settings_text NoMemory = codes "NoMemory"

@@ -22,6 +22,8 @@ pub fn settings_text(alloc: Global, fault: &SettingsFault) -> Result<String, NoM
         SettingsFault::TwiceRegistered(name) => format!(in alloc; "TwiceRegistered {name}"),
         SettingsFault::UnknownItem(name) => format!(in alloc; "UnknownItem {name}"),
         SettingsFault::BadCheck(count) => format!(in alloc; "BadCheck {count}"),
+        SettingsFault::UnknownCustom(name) => format!(in alloc; "UnknownCustom {name}"),
+        SettingsFault::NoConverter(name) => format!(in alloc; "NoConverter {name}"),
         SettingsFault::NoMemory => unreachable!(),
     }
 }
