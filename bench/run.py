@@ -20,6 +20,7 @@ SETTINGS = {
         {"item": "paragraph", "inheritAllFrom": "$block"},
         {"extend": "$text", "allowAttributes": ["bold"]},
     ],
+    "converters": [{"kind": "elementToElement", "model": "paragraph", "view": {"name": "p"}}],
 }
 
 

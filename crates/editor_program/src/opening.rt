@@ -5,7 +5,7 @@ ghost use Rattle.schema_definitions.specs.Allowed.{Rules};
 ghost use Rattle.document_definitions.specs.Document.{State};
 ghost use Rattle.settings_definitions.specs.Settings.{settings_of};
 ghost use Rattle.step_definitions.specs.Step.{opened};
-ghost use Rattle.program_definitions.specs.Output.{Outcome, refused, refused_settings, refused_start, settings_outcome, settled_outcome, started};
+ghost use Rattle.program_definitions.specs.Output.{Outcome, handed_in, refused, refused_settings, refused_start, settings_outcome, settled_outcome, started};
 ghost use Rattle.editor_program.specs.Ends.{IsNotHeld};
 ghost use Rattle.editor_program.specs.Unopened.{IsEnd, Opens};
 
@@ -71,11 +71,11 @@ fn editor_of(alloc: Global, settings: Settings) -> Result<Editor, Unopened>
 
 /// The editor of the bytes of a settings file.
 fn editor_from(alloc: Global, bytes: &[u8]) -> Result<Editor, Unopened>
-    ensures opens { Opens (λ next. settled_outcome next (settings_of bytes.now)) result }
+    ensures opens { Opens (λ next. settled_outcome next (settings_of handed_in bytes.now)) result }
     ensures fresh { IfOk result (λ editor. editor.accepted ≡ 0) }
     ensures read { IfErr result (λ fault. fault ≢ Unopened.NotFetched) }
 {
-    match read_settings(alloc, bytes) {
+    match read_settings(alloc, bytes, &[]) {
         Ok(settings) => editor_of(alloc, settings),
         Err(fault) => Err(settings_end(alloc, fault)),
     }

@@ -12,7 +12,13 @@ const SETTINGS: &[u8] = br#"{"version":1,"start":"paragraph","schema":[
 {"item":"image","inheritAllFrom":"$blockObject","allowAttributes":"source"},
 {"item":"mention","inheritAllFrom":"$inlineObject","allowAttributes":"user"},
 {"extend":"$text","allowAttributes":["bold","italic","link"]}],
-"checks":[{"child":"quote","endsWith":["quote","quote"],"answer":false}]}"#;
+"checks":[{"child":"quote","endsWith":["quote","quote"],"answer":false}],
+"converters":[
+{"kind":"elementToElement","model":"paragraph","view":{"name":"p"}},
+{"kind":"elementToElement","model":"heading","view":{"name":"heading"}},
+{"kind":"elementToElement","model":"quote","view":{"name":"quote"}},
+{"kind":"elementToElement","model":"image","view":{"name":"image"}},
+{"kind":"elementToElement","model":"mention","view":{"name":"mention"}}]}"#;
 
 /// What a run wrote, and its status.
 #[derive(Drop)]
@@ -155,22 +161,26 @@ fn checks_settings(runtime: HostRuntime) -> Result<(), Fail> {
     let alloc = runtime.alloc();
     let rows: [(&[u8], u8, &[u8]); 8] = [
         (SETTINGS, 0, b"settings ok\n"),
-        (br#"{"version":1,"schema":[]}"#, 0, b"settings ok\n"),
+        (
+            br#"{"version":1,"schema":[],"converters":[]}"#,
+            0,
+            b"settings ok\n",
+        ),
         (b"{", 1, b"settings refused NotJson\n"),
         (b"[]", 1, b"settings refused BadField \n"),
         (b"{}", 1, b"settings refused BadField /version\n"),
         (
-            br#"{"version":1,"start":"m","schema":[{"item":"m","inheritAllFrom":"$inlineObject"}]}"#,
+            br#"{"version":1,"start":"m","schema":[{"item":"m","inheritAllFrom":"$inlineObject"}],"converters":[{"kind":"elementToElement","model":"m","view":{"name":"m"}}]}"#,
             1,
             b"settings refused BadStart Schema child m in $root at [0]\n",
         ),
         (
-            br#"{"version":1,"schema":[{"item":"q"},{"item":"q"}]}"#,
+            br#"{"version":1,"schema":[{"item":"q"},{"item":"q"}],"converters":[]}"#,
             1,
             b"settings refused TwiceRegistered q\n",
         ),
         (
-            br#"{"version":1,"schema":[],"checks":[{"child":"$text","endsWith":[],"answer":true}]}"#,
+            br#"{"version":1,"schema":[],"checks":[{"child":"$text","endsWith":[],"answer":true}],"converters":[]}"#,
             1,
             b"settings refused BadCheck 1\n",
         ),

@@ -68,10 +68,14 @@ abbrev pub settled_outcome : (Rules → State → Outcome) → Result Settled Se
 settled_outcome next (Ok settled) = started next settled.rules (opened settled.rules settled.start)
 settled_outcome next (Err fault) = refused (refused_settings fault)
 
+-- the names of the products' converters that are handed in: none yet
+abbrev pub handed_in : List (List ℕ)
+handed_in = []
+
 -- a settings file that isn't held gives 4, and one over its limit 6
 abbrev pub settings_outcome : (Rules → State → Outcome) → Option (List ℕ) → Outcome
 settings_outcome next None = silent 4
-settings_outcome next (Some bytes) = if nat_lt most_settings_bytes (length bytes) then silent 6 else settled_outcome next (settings_of bytes)
+settings_outcome next (Some bytes) = if nat_lt most_settings_bytes (length bytes) then silent 6 else settled_outcome next (settings_of handed_in bytes)
 
 -- a task with the files that are held so
 abbrev pub task_outcome : (List ℕ → Option (List ℕ)) → Task → Outcome
