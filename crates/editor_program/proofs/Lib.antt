@@ -2,3 +2,4 @@ pub mod FirstLine
 pub mod Words
 pub mod Sending
 pub mod Starting
+pub mod Ascii

@@ -4,3 +4,5 @@ pub mod Asked
 pub mod Ends
 pub mod Unopened
 pub mod Unanswered
+pub mod Extensions
+pub mod Lawful

@@ -3,6 +3,7 @@
 #![tactic(auto)]
 
 mod answering;
+pub mod extensions;
 mod lines;
 mod opening;
 mod printing;
