@@ -1,5 +1,5 @@
 //! The two bounds between which a character is looked for.
-ghost use Rattle.std.specs.Prelude.{◌≡◌, ◌<◌, ◌≤◌, ◌+◌, ◌^◌, ℕ, List, [], ◌∷◌, false, true, nat_le, nat_lt, option_copied};
+ghost use Rattle.std.specs.Prelude.{◌≡◌, ◌<◌, ◌≤◌, ◌+◌, ◌^◌, ℕ, List, [], ◌∷◌, false, true, not, nat_le, nat_lt, option_copied};
 ghost use Rattle.item_definitions.specs.Position.{behind, holds, not_after};
 ghost use Rattle.live_selection.specs.Within.{any_from, ends_by, is_within, is_within_some, starts_after};
 
@@ -86,7 +86,8 @@ impl<'a> Bounds<'a> {
 
     /// Whether the items from an index on, and all that is in them, lie behind them.
     pub fn are_before(self, index: u32) -> bool
-        ensures { result ≡ true → (next : ℕ) (rest : List ℕ) → index ≤ next → is_within self.entry (next ∷ rest) ≡ false }
+        ensures nothing { result ≡ true → (next : ℕ) (rest : List ℕ) → index ≤ next → is_within self.entry (next ∷ rest) ≡ false }
+        ensures exact { result ≡ not (ends_by (option_copied self.entry.end) (index ∷ [])) }
     {
         match self.end {
             Some(end) => match end.split_first() {

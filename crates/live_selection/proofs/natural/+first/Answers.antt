@@ -10,7 +10,7 @@ use Rattle.live_selection.proofs.natural.+first.Goals as goal
 
 pub first_in_items-returns-then-are_before : goal.first_in_items-returns-then-are_before
 first_in_items-returns-then-are_before t c =
-    found_no_more c.args.bounds c.loop-node.index (items_in (drop c.loop-node.node-index c.deref-node-items.result.now)) (c.are_before.ensures c.if-are_before.true) ∙ c.loop-node.invariant.found
+    found_no_more c.args.bounds c.loop-node.index (items_in (drop c.loop-node.node-index c.deref-node-items.result.now)) (c.are_before.ensures.nothing c.if-are_before.true) ∙ c.loop-node.invariant.found
 
 pub first_in_items-first_in_node-requires : goal.first_in_items-first_in_node-requires
 first_in_items-first_in_node-requires t c =
