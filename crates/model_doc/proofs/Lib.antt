@@ -5,3 +5,4 @@ pub mod Led
 pub mod Partway
 pub mod SameCells
 pub mod GoingBack
+pub mod Fitting
