@@ -4,4 +4,6 @@
 pub mod marks;
 pub mod model;
 pub mod refusals;
+#[cfg(test)]
+mod tests;
 pub mod view;
