@@ -1,5 +1,5 @@
 -- Ids that are drawn one after the other.
-use Rattle.std.proofs.Common.{◌≡◌, ℕ, zero, suc, ◌+◌, ◌<◌, ◌≤◌, ◌^◌, Bool, true, false, nat_eq, ◌==◌, List, [], ◌∷◌, ◌++◌, length, All, refl, sym, ap, ◌∙◌, arith}
+use Rattle.std.proofs.Common.{◌≡◌, ℕ, zero, suc, ◌+◌, ◌<◌, ◌≤◌, ◌^◌, false, nat_eq, ◌==◌, List, [], ◌∷◌, ◌++◌, length, All, refl, sym, ap, ◌∙◌, arith}
 use Rattle.std.specs.List.{IsDistinct, AllByRecursion}
 use Rattle.std.proofs.lemmas.Bool.Decides.{nat_tests}
 use Rattle.std.proofs.lemmas.List.{length-append}
@@ -7,7 +7,7 @@ use Rattle.std.proofs.lemmas.List.Elements.{All-cons, All-head, All-tail}
 use Rattle.item_definitions.specs.Item.{Item, Items, character, element, none, more}
 use Rattle.document_definitions.specs.Document.{ids_of, ids_of_item, ids_of_inner}
 use Rattle.edit_definitions.specs.Runs.{item_with_ids, inner_with_ids, with_ids}
-use Rattle.model_writer.proofs.Numbered.{next-item, next-inner}
+use Rattle.model_writer.proofs.Numbered.{next-item}
 
 -- so many numbers from one on
 abbrev pub numbers : ℕ → ℕ → List ℕ

@@ -1,11 +1,10 @@
 -- What an edit makes of a document.
-use Rattle.std.proofs.Common.{◌≡◌, ◌≢◌, ℕ, ◌+◌, ◌-◌, ◌^◌, min, Bool, true, false, List, [], ◌∷◌, ◌++◌, map, length, Option, Some, None, Result, Ok, Err, refl, sym, ap, ◌∙◌, arith}
-use Rattle.ck_base.specs.declared.value.Value.{Value as AttributeValue}
+use Rattle.std.proofs.Common.{◌≡◌, ◌≢◌, ℕ, ◌-◌, ◌^◌, min, Bool, true, false, List, [], Some, Result, Ok, Err, refl, sym, ap, ◌∙◌}
 use Rattle.ck_base.specs.declared.faults.EditFault.{EditFault}
 use Rattle.ck_base.specs.declared.faults.EditFault.TheVariants.{BadRange, NoMemory}
 use Rattle.item_definitions.specs.Position.{between}
 use Rattle.operation_definitions.specs.Operation.{Operation, Fault, no_place, not_flat, into_itself, old_differs, not_neighbours, cell_state, too_large, too_deep}
-use Rattle.document_definitions.specs.Selection.{selected, with_override}
+use Rattle.document_definitions.specs.Selection.{selected}
 use Rattle.document_definitions.specs.Document.{State, with_selection, all_applied}
 use Rattle.edit_definitions.specs.declared.edit.Edit.{Edit}
 use Rattle.edit_definitions.specs.declared.edit.Edit.TheVariants.{InsertText, InsertElement, Remove, Move, SetAttribute, RemoveAttribute, Rename, Split, Merge, Wrap, Unwrap, AddMarker, UpdateMarker, RemoveMarker, Select, SelectionAttribute, InsertItems}

@@ -1,9 +1,9 @@
 -- The name of the element at a path.
-use Rattle.std.proofs.Common.{◌≡◌, ℕ, List, [], ◌∷◌, Bool, true, false, nat_eq, if◌then◌else◌, Option, Some, None, option_map, option_and_then, refl, sym, ap, ◌∙◌}
+use Rattle.std.proofs.Common.{◌≡◌, ℕ, List, [], ◌∷◌, true, false, nat_eq, if◌then◌else◌, Option, Some, None, option_map, option_and_then, refl, sym, ap}
 use Rattle.std.specs.Cmp.Lexicographic.{pointwise}
 use Rattle.item_definitions.specs.Item.{Attributes, Item, character, element}
 use Rattle.item_definitions.specs.Children.{item_at}
-use Rattle.operation_definitions.specs.Operation.{Operation, rename}
+use Rattle.operation_definitions.specs.Operation.{rename}
 use Rattle.model_tree.specs.Parts.{HeadParts}
 use Rattle.model_tree.specs.Reading.{shown_character, shown_element, shown_of}
 use Rattle.edit_definitions.specs.Planned.{name_of, renaming}

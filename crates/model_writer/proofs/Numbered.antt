@@ -1,8 +1,8 @@
 -- Ids of items, and new ids for them.
-use Rattle.std.proofs.Common.{◌≡◌, ◌≢◌, ℕ, zero, suc, ◌+◌, ◌-◌, ◌<◌, ◌≤◌, ◌^◌, min, max, List, [], ◌∷◌, ◌++◌, map, length, take, drop, get_or, refl, sym, ap, ◌∙◌, subst, arith}
+use Rattle.std.proofs.Common.{◌≡◌, ◌≢◌, ℕ, zero, suc, ◌+◌, ◌-◌, ◌<◌, ◌≤◌, ◌^◌, min, List, [], ◌∷◌, ◌++◌, map, length, take, drop, get_or, refl, sym, ap, ◌∙◌, subst, arith}
 use Rattle.std.proofs.lemmas.List.{length-append, append-nil, take-append-drop, take_more, length-drop, length-take}
 use Rattle.std.proofs.lemmas.List.Concat.{flat_map-append}
-use Rattle.item_definitions.specs.Item.{Item, Items, Attributes, character, element, none, more, list_of, items_of, count_of, item_count, depth_of}
+use Rattle.item_definitions.specs.Item.{Item, Items, Attributes, character, element, none, more, items_of, count_of, depth_of}
 use Rattle.document_definitions.specs.Document.{ids_of, ids_of_item, ids_of_inner}
 use Rattle.edit_definitions.specs.Runs.{item_with_ids, inner_with_ids, with_ids}
 use Rattle.model_tree.specs.declared.items.Node.{Node}
@@ -11,7 +11,6 @@ use Rattle.model_tree.specs.Parts.{TextParts, HeadParts}
 use Rattle.model_tree.specs.Nodes.{characters, items_at, items_in, IsNormal}
 use Rattle.model_tree.proofs.Counts.{count-append, count-inner, depth-append, depth-inner}
 use Rattle.model_tree.proofs.Shown.{length_count}
-use Rattle.operation_definitions.proofs.Lifting.{list_of-items_of}
 
 -- how many ids there are
 pub ids-append : (front back : List Item) → length (ids_of (front ++ back)) ≡ length (ids_of front) + length (ids_of back)

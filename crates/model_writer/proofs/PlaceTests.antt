@@ -1,5 +1,5 @@
 -- The tests of places, by what the tree tells.
-use Rattle.std.proofs.Common.{◌≡◌, ℕ, ◌-◌, ◌<◌, ◌^◌, min, List, [], ◌∷◌, ◌++◌, length, Bool, true, false, nat_le, Option, Some, None, option_map, is_some, refl, sym, ap, ◌∙◌, arith}
+use Rattle.std.proofs.Common.{◌≡◌, ℕ, ◌-◌, ◌<◌, ◌^◌, min, List, [], ◌∷◌, ◌++◌, length, true, false, nat_le, Option, Some, None, option_map, is_some, refl, sym, ap, ◌∙◌, arith}
 use Rattle.std.specs.Option.{option_map_or, option_and_then}
 use Rattle.std.proofs.lemmas.Bool.Decides.{nat_tests}
 use Rattle.item_definitions.specs.Item.{Attributes, Item, character, element, inner}

@@ -1,10 +1,10 @@
 -- The first name of items that is unknown.
-use Rattle.std.proofs.Common.{◌≡◌, ℕ, suc, ◌+◌, ◌<◌, ◌≤◌, Bool, true, false, not, List, [], ◌∷◌, ◌++◌, map, drop, length, get_or, find, Option, Some, None, option_and_then, if◌then◌else◌, refl, sym, ap, ◌∙◌}
+use Rattle.std.proofs.Common.{◌≡◌, ℕ, ◌+◌, ◌<◌, ◌≤◌, Bool, true, false, not, List, [], ◌∷◌, ◌++◌, map, drop, length, get_or, find, Option, Some, None, option_and_then, if◌then◌else◌, refl, sym, ap, ◌∙◌}
 use Rattle.std.proofs.lemmas.List.{drop_more, drop_all}
 use Rattle.std.specs.Option.{option_or}
 use Rattle.std.specs.List.{flat_map, enumerate_from}
-use Rattle.item_definitions.specs.Item.{Item, Items, Attributes, character, element, none, more, list_of, items_of}
-use Rattle.item_definitions.specs.Children.{walk, walk_item, walk_inner}
+use Rattle.item_definitions.specs.Item.{Item, Items, Attributes, character, element, none, more, items_of}
+use Rattle.item_definitions.specs.Children.{walk_item, walk_inner}
 use Rattle.edit_definitions.specs.Places.{is_known}
 use Rattle.edit_definitions.specs.Planned.{name_of, is_unknown, unknown_in}
 use Rattle.model_tree.specs.declared.items.Node.TheVariants.{Run, Element}

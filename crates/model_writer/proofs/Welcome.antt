@@ -1,30 +1,28 @@
 -- What an edit plans on a sound document brings new ids alone, and ranges of markers that are in the tree.
-use Rattle.std.proofs.Common.{◌≡◌, ◌≢◌, ℕ, zero, suc, ◌+◌, ◌<◌, ◌≤◌, ◌^◌, Bool, true, false, not, nat_eq, nat_le, nat_lt, ◌&&◌, ◌||◌, ◌==◌, if◌then◌else◌, List, [], ◌∷◌, ◌++◌, map, length, reverse, Option, Some, None, ok_or, option_and_then, unwrap_or, is_none, IsSomeAnd, Result, Ok, Err, All, refl, sym, ap, ◌∙◌, subst, arith}
+use Rattle.std.proofs.Common.{◌≡◌, ◌≢◌, ℕ, ◌+◌, ◌<◌, ◌≤◌, ◌^◌, Bool, true, false, not, nat_eq, nat_le, nat_lt, ◌&&◌, ◌||◌, ◌==◌, if◌then◌else◌, List, [], ◌∷◌, ◌++◌, map, length, reverse, Option, Some, None, ok_or, option_and_then, unwrap_or, is_none, IsSomeAnd, Result, Ok, Err, All, refl, sym, subst, arith}
 use Rattle.std.specs.Option.{option_map_or}
-use Rattle.std.specs.List.{flat_map, IsDistinct, AllByRecursion}
+use Rattle.std.specs.List.{flat_map, IsDistinct}
 use Rattle.std.proofs.lemmas.Bool.Decides.{nat_tests}
-use Rattle.std.proofs.lemmas.List.Elements.{All-cons, All-head, All-tail}
-use Rattle.std.proofs.lemmas.List.{length-append, append_assoc}
 use Rattle.ck_base.specs.declared.value.Value.{Value as AttributeValue}
 use Rattle.ck_base.specs.declared.faults.EditFault.{EditFault}
 use Rattle.ck_base.specs.declared.faults.EditFault.TheVariants.{NotRegistered, BadPosition, BadRange, BadTarget, MarkerExists, MarkerUnknown, IdsSpent}
 use Rattle.ck_base.specs.Entries.{value_of}
-use Rattle.item_definitions.specs.Item.{Item, Items, Attributes, character, element, none, more}
+use Rattle.item_definitions.specs.Item.{Item, Attributes, character}
 use Rattle.item_definitions.specs.Children.{parent_of, offset_of, child_count, item_at}
 use Rattle.item_definitions.specs.Position.{Range, between, behind, not_after, IsPlace, IsRange}
 use Rattle.item_definitions.specs.FlatParts.{flat_parts}
 use Rattle.operation_definitions.specs.Operation.{Operation, in_tree, in_cell, fresh, insert, move, attribute, rename, split, merge, marker}
 use Rattle.operation_definitions.specs.Reversed.{HasPlaces}
 use Rattle.document_definitions.specs.Selection.{same_position, same_range}
-use Rattle.document_definitions.specs.Document.{State, ids_of, ids_of_item, ids_of_inner, brought, applied}
-use Rattle.document_definitions.specs.Sound.{IsSound, IsFitting, IsMarkerIn, ids_in}
+use Rattle.document_definitions.specs.Document.{State, ids_of, applied}
+use Rattle.document_definitions.specs.Sound.{IsSound, ids_in}
 use Rattle.document_definitions.proofs.Soundness.{keeps_soundness}
 use Rattle.edit_definitions.specs.declared.edit.Edit.{Edit}
 use Rattle.edit_definitions.specs.declared.edit.Edit.TheVariants.{InsertText, InsertElement, Remove, Move, SetAttribute, RemoveAttribute, Rename, Split, Merge, Wrap, Unwrap, AddMarker, UpdateMarker, RemoveMarker, Select, SelectionAttribute, InsertItems}
 use Rattle.edit_definitions.specs.declared.edit.Target.{Target}
 use Rattle.edit_definitions.specs.Places.{is_there, is_range, are_in_one, is_element, path_before, is_between, is_known}
 use Rattle.edit_definitions.specs.Planned.{◌>>=◌, check, ids_left, count_in, insertion, empty_element, removals, moved_run, parts_of, given_to, name_of, renaming, unknown_in, known_names, marker_of, operations_of}
-use Rattle.edit_definitions.specs.Runs.{Run, runs_of, items_of_range, attribute_runs, give_in, item_with_ids, inner_with_ids, with_ids}
+use Rattle.edit_definitions.specs.Runs.{Run, runs_of, items_of_range, attribute_runs, give_in, with_ids}
 use Rattle.model_doc.specs.Conditions.{IsWelcome, AreWelcome}
 use Rattle.model_writer.proofs.Numbered.{text-none}
 use Rattle.model_writer.proofs.Drawn.{numbers, ids-numbered, distinct-from, known-from}

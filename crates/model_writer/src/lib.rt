@@ -2,6 +2,8 @@
 #![tactic(auto)]
 
 mod attributes;
+#[cfg(test)]
+mod drawing;
 mod elements;
 mod inserting;
 mod marking;
@@ -11,6 +13,10 @@ pub mod performing;
 mod places;
 mod planning;
 mod runs;
+#[cfg(test)]
+mod samples;
+#[cfg(test)]
+mod tests;
 mod wrapping;
 
 pub use model_doc::Batch;

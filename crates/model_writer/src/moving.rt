@@ -101,7 +101,6 @@ fn number_behind(number: u64, count: u64) -> Option<u64>
 }
 
 /// The items of flat ranges go into new cells, in this order, the first of which has this number.
-
 fn removals(alloc: Global, cell: u64, parts: &[Range]) -> Result<Vec<Operation>, EditFault>
     ensures { Plans (Ok (removals cell parts.now)) result }
 {

@@ -1,4 +1,4 @@
-use Rattle.std.proofs.Common.{◌≡◌, true, sym, ap, ◌∙◌}
+use Rattle.std.proofs.Common.{◌≡◌, true, sym, ◌∙◌}
 use Rattle.schema_definitions.specs.Allowed.{is_registered}
 use Rattle.edit_definitions.specs.Places.{is_known}
 use Rattle.model_tree.specs.Nodes.{items_in}

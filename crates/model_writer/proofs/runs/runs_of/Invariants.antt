@@ -1,4 +1,4 @@
-use Rattle.std.proofs.Common.{◌≡◌, length}
+use Rattle.std.proofs.Common.{length}
 use Rattle.std.specs.Prelude.{option_copied}
 use Rattle.edit_definitions.specs.Runs.{runs_of}
 use Rattle.model_writer.proofs.Joined.{IsPartway}
