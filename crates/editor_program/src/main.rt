@@ -28,6 +28,8 @@ fn words_of(runtime: &(impl Env + AllocGlobal)) -> io::Result<Vec<String>> {
     Ok(words)
 }
 
+/// Runs the program on the words of the command line, over the real file system and standard output. It answers the status of `run`, and that
+/// for want of memory also where there was none for the words. Words that aren't UTF-8 count as words of no form.
 fn main(runtime: HostRuntime) -> ExitCode {
     let words = match words_of(&runtime) {
         Ok(words) => words,
