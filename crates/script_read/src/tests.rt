@@ -107,6 +107,14 @@ fn fields_of_other_edits(rt: HostRuntime) -> Result<(), Fail> {
     Ok(())
 }
 
+/// Whether a change of an edit alone is refused at a field of it.
+fn is_edit_refused_at(alloc: Global, edit: &str, field: &str) -> Result<bool, Fail> {
+    let mut line = String::from_str(alloc, "{\"do\":\"change\",\"edits\":[")?;
+    line.push_str(edit)?;
+    line.push_str("]}")?;
+    is_refused_at(alloc, line.as_str(), field)
+}
+
 #[test]
 fn other_forms(rt: HostRuntime) -> Result<(), Fail> {
     let alloc = rt.alloc();
@@ -130,6 +138,21 @@ fn other_forms(rt: HostRuntime) -> Result<(), Fail> {
             "at/1",
         ),
         (
+            "{\"edit\":\"select\",\"start\":[0],\"backward\":0}",
+            "backward",
+        ),
+    ];
+    for (edit, field) in rows {
+        assert!(rt; is_edit_refused_at(alloc, edit, field)?);
+    }
+    Ok(())
+}
+
+#[test]
+fn attributes_of_texts(rt: HostRuntime) -> Result<(), Fail> {
+    let alloc = rt.alloc();
+    let rows = [
+        (
             "{\"edit\":\"insertText\",\"at\":[0],\"text\":\"\",\"attributes\":{\"a b\":7,\"c\":1}}",
             "attributes/a b",
         ),
@@ -141,17 +164,16 @@ fn other_forms(rt: HostRuntime) -> Result<(), Fail> {
             "{\"edit\":\"insertText\",\"at\":[0],\"text\":\"\",\"attributes\":null}",
             "attributes",
         ),
-        (
-            "{\"edit\":\"select\",\"start\":[0],\"backward\":0}",
-            "backward",
-        ),
     ];
     for (edit, field) in rows {
-        let mut line = String::from_str(alloc, "{\"do\":\"change\",\"edits\":[")?;
-        line.push_str(edit)?;
-        line.push_str("]}")?;
-        assert!(rt; is_refused_at(alloc, line.as_str(), field)?);
+        assert!(rt; is_edit_refused_at(alloc, edit, field)?);
     }
+    Ok(())
+}
+
+#[test]
+fn counts_of_edits(rt: HostRuntime) {
+    let alloc = rt.alloc();
     assert!(rt; is_change(alloc, "{\"do\":\"change\",\"edits\":[]}", 0));
     assert!(rt;
         is_change(
@@ -160,7 +182,6 @@ fn other_forms(rt: HostRuntime) -> Result<(), Fail> {
             2
         )
     );
-    Ok(())
 }
 
 /// The line of a split at a position of so many numbers.
