@@ -1,0 +1,2 @@
+//! Where the view shows the positions of a document, and which positions its places mean. (After `Mapper` of CKEditor 5.)
+#![tactic(auto)]
