@@ -1,2 +1,4 @@
 pub mod Bindings
+pub mod Codes
+pub mod Keys
 pub mod Mapped

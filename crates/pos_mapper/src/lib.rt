@@ -1,2 +1,6 @@
 //! Where the view shows the positions of a document, and which positions its places mean. (After `Mapper` of CKEditor 5.)
 #![tactic(auto)]
+
+pub mod mapper;
+pub mod parts;
+mod table;

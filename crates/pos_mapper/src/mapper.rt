@@ -1,0 +1,78 @@
+//! The mapper of a view.
+ghost use Rattle.std.specs.Prelude.{◌≡◌, [], None, OnOk, OnErr};
+ghost use Rattle.pos_mapper.specs.Bindings.{numbers_of, with_binding};
+
+use crate::parts::{Binding, CaretPlace, Slot};
+use crate::table::Table;
+use ck_base::NoMemory;
+use model_tree::id::ElementId;
+use std::alloc::Global;
+use std::marker::Model;
+use view_tree::node::ViewNumber;
+
+/// Which view elements show the elements of a document, where their contents stand in them, and where the caret is seen.
+#[derive(Drop)]
+pub struct Mapper {
+    table: Table,
+    caret: Option<CaretPlace>,
+}
+
+impl Model for Mapper {
+    ghost use Rattle.pos_mapper.specs.Bindings.{Mapper as Parts};
+    ghost use Rattle.pos_mapper.specs.Codes.{coded_mapper};
+
+    ghost Value = { Parts };
+
+    ghost coded = { coded_mapper };
+
+    ghost view = { λ mapper. record { bindings = mapper.table; caret = mapper.caret } };
+}
+
+impl Mapper {
+    /// A mapper with no element bound and no caret. It takes no memory.
+    pub fn new(alloc: Global) -> Mapper
+        ensures { result ≡ record { bindings = []; caret = None } }
+    {
+        Mapper {
+            table: Table::new(alloc),
+            caret: None,
+        }
+    }
+
+    /// Binds an element of the document to the view element that shows it, with the slot of its content, if it has one. An element that
+    /// is bound and a view element that shows one stay as they are. It answers `NoMemory` alone beside Ok, and then nothing has changed.
+    pub fn bind(
+        &mut self,
+        id: ElementId,
+        number: ViewNumber,
+        slot: Option<Slot>,
+    ) -> Result<(), NoMemory>
+        ensures ok { OnOk result (self.new ≡ with_binding (record { id = id; number = number; slot = slot }) self.old) }
+        ensures err { OnErr result (self.new ≡ self.old) }
+    {
+        if self.table.of_id(id.value()).is_some() {
+            return Ok(());
+        }
+        if self.table.of_number(number.value()).is_some() {
+            return Ok(());
+        }
+        self.table.add(Binding { id, number, slot })
+    }
+
+    /// Says where the caret is seen, if there is one. It takes no memory.
+    pub fn set_caret(&mut self, caret: Option<CaretPlace>)
+        ensures { self.new ≡ record self.old { caret = caret } }
+    {
+        self.caret = caret;
+    }
+
+    /// The number of the view element of an element: None exactly where the element is not bound. It takes no memory.
+    pub fn number(&self, id: ElementId) -> Option<ViewNumber>
+        ensures { result ≡ numbers_of self.now id }
+    {
+        match self.table.of_id(id.value()) {
+            Some(binding) => Some(binding.number),
+            None => None,
+        }
+    }
+}
