@@ -1,1 +1,4 @@
 pub mod Keyed
+pub mod Nodes
+pub mod Uncounted
+pub mod Filled

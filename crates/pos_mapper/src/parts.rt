@@ -1,5 +1,5 @@
 //! What a mapper is told: where an element's content stands in its view element, and where the caret is seen.
-ghost use Rattle.std.specs.Prelude.{◌≡◌};
+ghost use Rattle.std.specs.Prelude.{◌≡◌, option_copied};
 
 use model_pos::Position;
 use model_tree::id::ElementId;
@@ -51,6 +51,15 @@ impl Model for Binding {
     ghost coded = { coded_binding };
 
     ghost view = { λ binding. record { id = binding.id; number = binding.number; slot = binding.slot } };
+}
+
+impl Binding {
+    /// The slot, if there is one.
+    pub(crate) fn slot(&self) -> Option<&Slot>
+        ensures { option_copied result ≡ self.now.slot }
+    {
+        self.slot.as_ref()
+    }
 }
 
 /// The caret's position, and where it is seen in the content of the position's parent.

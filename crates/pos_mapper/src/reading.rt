@@ -1,0 +1,305 @@
+//! What places of the view mean, read from its nodes.
+ghost use Rattle.std.specs.Prelude.{◌≡◌, ◌≤◌, ◌++◌, [], ◌∷◌, length, option_map, option_and_then, option_copied};
+ghost use Rattle.view_tree.specs.Kinds.{kind_of};
+ghost use Rattle.downcast_definitions.specs.Meant.{by_kind};
+ghost use Rattle.pos_mapper.specs.Reading.{slots_in, only_number, between_nodes, in_text, content_of, in_slot, in_node, in_nodes, read, reads, read_step};
+
+use crate::lengths::{before_node, kind_of, number_of, sum};
+use crate::parts::Slot;
+use crate::table::Table;
+use ck_base::path::Path;
+use view_tree::kind::ElementKind;
+use view_tree::node::{Detached, ViewNumber};
+
+/// A position so far, with its last number.
+fn with_last(made: Path, offset: Option<u32>) -> Option<Path>
+    requires { length made ≤ 64 }
+    ensures { result ≡ option_map (λ position. made ++ position) (only_number offset) }
+{
+    let mut made = made;
+    match offset {
+        Some(offset) => {
+            made.push(offset);
+            Some(made)
+        }
+        None => None,
+    }
+}
+
+/// The position that a place between nodes means, before which so many items are shown.
+fn between_nodes(nodes: &[Detached], offset: u32, index: u64, made: Path) -> Option<Path>
+    requires { length made ≤ 64 }
+    ensures { result ≡ option_map (λ position. made ++ position) (between_nodes offset nodes.now index) }
+{
+    let index = index as usize;
+    if index <= nodes.len() {
+        with_last(made, before_node(offset, index, nodes))
+    } else {
+        None
+    }
+}
+
+/// The position that a place in a text means.
+fn in_text(scalars: &[char], offset: u32, path: &[u64], last: u64, made: Path) -> Option<Path>
+    requires { length made ≤ 64 }
+    ensures { result ≡ option_map (λ position. made ++ position) (in_text offset (length scalars.now) path.now last) }
+{
+    match path.split_first() {
+        None => {
+            if last <= scalars.len() as u64 {
+                with_last(made, sum(offset, last))
+            } else {
+                None
+            }
+        }
+        Some(_) => None,
+    }
+}
+
+/// The nodes of a list from a base on, but for so many behind them.
+fn content_of(nodes: &[Detached], base: u64, behind: u64) -> &[Detached]
+    ensures { result.now ≡ content_of base behind nodes.now }
+{
+    let count = nodes.len() as u64;
+    if base > count {
+        return &nodes[nodes.len()..];
+    }
+    if behind > count - base {
+        return &nodes[nodes.len()..];
+    }
+    &nodes[base as usize..(count - behind) as usize]
+}
+
+/// The slot of the view element with a number, if it has one.
+fn slot_of(table: &Table, number: Option<ViewNumber>) -> Option<&Slot>
+    ensures { option_copied result ≡ option_and_then (slots_in table.now) number }
+{
+    let Some(number) = number else {
+        return None;
+    };
+    match table.of_number(number.value()) {
+        Some(binding) => binding.slot(),
+        None => None,
+    }
+}
+
+/// The position that a place in these nodes means.
+#[cycle(reads)]
+pub fn read_nodes(
+    table: &Table,
+    nodes: &[Detached],
+    offset: u32,
+    path: &[u64],
+    last: u64,
+    made: Path,
+) -> Option<Path>
+    requires { length made ≤ 64 }
+    ensures { result ≡ option_map (λ position. made ++ position) (read (slots_in table.now) (length made) [] 0 offset nodes.now path.now last) }
+{
+    match path.split_first() {
+        None => between_nodes(nodes, offset, last, made),
+        Some((index, rest)) => read_at(table, nodes, *index, offset, rest, last, made),
+    }
+}
+
+/// The position that a place means whose first index is this, among these nodes.
+#[cycle(reads)]
+fn read_at(
+    table: &Table,
+    nodes: &[Detached],
+    index: u64,
+    offset: u32,
+    path: &[u64],
+    last: u64,
+    made: Path,
+) -> Option<Path>
+    requires { length made ≤ 64 }
+    ensures { result ≡ option_map (λ position. made ++ position) (in_nodes (slots_in table.now) (reads (slots_in table.now) path.now last) (length made) path.now last offset nodes.now index) }
+{
+    let index = index as usize;
+    let Some(node) = nodes.get(index) else {
+        return None;
+    };
+    match before_node(offset, index, nodes) {
+        Some(before) => read_node(table, node, before, path, last, made),
+        None => None,
+    }
+}
+
+/// The position that a place in a node means.
+#[cycle(reads)]
+#[tactic(auto, using(crate::proofs::Nodes::in_element, crate::proofs::Nodes::in_a_text))]
+fn read_node(
+    table: &Table,
+    node: &Detached,
+    offset: u32,
+    path: &[u64],
+    last: u64,
+    made: Path,
+) -> Option<Path>
+    requires { length made ≤ 64 }
+    ensures { result ≡ option_map (λ position. made ++ position) (in_node (slots_in table.now) (reads (slots_in table.now) path.now last) (length made) path.now last offset node.now) }
+{
+    if let Some(text) = node.text() {
+        return in_text(text.scalars(), offset, path, last, made);
+    }
+    match (kind_of(node), node.children()) {
+        (Some(kind), Some(children)) => read_element(
+            table,
+            kind,
+            number_of(node),
+            children.as_slice(),
+            offset,
+            path,
+            last,
+            made,
+        ),
+        _ => None,
+    }
+}
+
+/// The position that a place in an element with these children means.
+#[cycle(reads)]
+fn read_element(
+    table: &Table,
+    kind: &ElementKind,
+    number: Option<ViewNumber>,
+    children: &[Detached],
+    offset: u32,
+    path: &[u64],
+    last: u64,
+    made: Path,
+) -> Option<Path>
+    requires { length made ≤ 64 }
+    ensures { result ≡ option_map (λ position. made ++ position)
+        (by_kind (kind_of kind.now) (read (slots_in table.now) (length made) [] 0 offset children.now path.now last)
+        (in_slot (reads (slots_in table.now) path.now last) (length made) offset children.now (option_and_then (slots_in table.now) number))) }
+{
+    match kind {
+        ElementKind::Container => { read_inside(table, number, children, offset, path, last, made) }
+        ElementKind::Attribute { .. } => read_nodes(table, children, offset, path, last, made),
+        ElementKind::Empty => read_inside(table, number, children, offset, path, last, made),
+        ElementKind::Ui => None,
+    }
+}
+
+/// The position that a place in a view element with these children means, which shows an element of the document.
+#[cycle(reads)]
+#[tactic(auto, using(crate::proofs::Nodes::one_deeper))]
+fn read_inside(
+    table: &Table,
+    number: Option<ViewNumber>,
+    children: &[Detached],
+    offset: u32,
+    path: &[u64],
+    last: u64,
+    made: Path,
+) -> Option<Path>
+    requires { length made ≤ 64 }
+    ensures { result ≡ option_map (λ position. made ++ position) (in_slot (reads (slots_in table.now) path.now last) (length made) offset children.now (option_and_then (slots_in table.now) number)) }
+{
+    let Some(slot) = slot_of(table, number) else {
+        return None;
+    };
+    if made.len() >= 64 {
+        return None;
+    }
+    let mut made = made;
+    made.push(offset);
+    read_slot(
+        table,
+        children,
+        slot.place.as_slice(),
+        slot.behind,
+        path,
+        last,
+        made,
+    )
+}
+
+/// The position that a place in an element means, from whose children this way leads to the slot.
+#[cycle(reads)]
+#[tactic(auto, using(crate::proofs::Nodes::no_way))]
+fn read_slot(
+    table: &Table,
+    nodes: &[Detached],
+    way: &[u64],
+    behind: u64,
+    path: &[u64],
+    last: u64,
+    made: Path,
+) -> Option<Path>
+    requires { length made ≤ 64 }
+    ensures { result ≡ option_map (λ position. made ++ position) (read (slots_in table.now) (length made) way.now behind 0 nodes.now path.now last) }
+{
+    match way.split_first() {
+        None => read_nodes(table, nodes, 0, path, last, made),
+        Some((first, further)) => match further.split_first() {
+            None => read_content(table, nodes, *first, behind, path, last, made),
+            Some(_) => read_step(table, nodes, *first, further, behind, path, last, made),
+        },
+    }
+}
+
+/// The position that a place in a list means in which the content begins at a base.
+#[cycle(reads)]
+fn read_content(
+    table: &Table,
+    nodes: &[Detached],
+    base: u64,
+    behind: u64,
+    path: &[u64],
+    last: u64,
+    made: Path,
+) -> Option<Path>
+    requires { length made ≤ 64 }
+    ensures { result ≡ option_map (λ position. made ++ position) (read (slots_in table.now) (length made) (base ∷ []) behind 0 nodes.now path.now last) }
+{
+    let content = content_of(nodes, base, behind);
+    match path.split_first() {
+        None => {
+            if base <= last {
+                between_nodes(content, 0, last - base, made)
+            } else {
+                None
+            }
+        }
+        Some((index, rest)) => {
+            if base <= *index {
+                read_at(table, content, *index - base, 0, rest, last, made)
+            } else {
+                None
+            }
+        }
+    }
+}
+
+/// The position that a place means whose first index is this step on the way.
+#[cycle(reads)]
+fn read_step(
+    table: &Table,
+    nodes: &[Detached],
+    step: u64,
+    way: &[u64],
+    behind: u64,
+    path: &[u64],
+    last: u64,
+    made: Path,
+) -> Option<Path>
+    requires { length made ≤ 64 }
+    ensures { result ≡ option_map (λ position. made ++ position) (read_step (slots_in table.now) (length made) step way.now behind nodes.now path.now last) }
+{
+    let Some((index, rest)) = path.split_first() else {
+        return None;
+    };
+    if step != *index {
+        return None;
+    }
+    let Some(node) = nodes.get(*index as usize) else {
+        return None;
+    };
+    match node.children() {
+        Some(children) => read_slot(table, children.as_slice(), way, behind, rest, last, made),
+        None => None,
+    }
+}
