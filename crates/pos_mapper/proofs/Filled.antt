@@ -1,5 +1,5 @@
 -- A place in a shape whose slot holds some nodes is one in these nodes.
-use Rattle.std.proofs.Common.{◌≡◌, ℕ, zero, suc, ◌+◌, ◌-◌, ◌≤◌, List, [], ◌∷◌, ◌++◌, length, take, drop, Bool, true, false, Option, Some, None, option_map, option_and_then, append_assoc, length-append, refl, sym, ap, ◌∙◌, subst, arith}
+use Rattle.std.proofs.Common.{◌≡◌, ℕ, ◌+◌, ◌-◌, ◌≤◌, List, [], ◌∷◌, ◌++◌, length, take, drop, true, false, Option, Some, None, option_map, option_and_then, append_assoc, length-append, refl, sym, ap, ◌∙◌, subst, arith}
 use Rattle.std.proofs.lemmas.Bool.Decides.{nat_tests}
 use Rattle.std.specs.Prelude.{slice_get, if◌then◌else◌, nat_le, ◌==◌}
 use Rattle.std.specs.Option.{option_or}
@@ -11,7 +11,7 @@ use Rattle.converter_definitions.specs.Shape.{slot_in, slot_among, slot_count, i
 use Rattle.converter_definitions.specs.Views.{head_of, filled, filled_inner}
 use Rattle.downcast_definitions.specs.Meant.{out_of_slot}
 use Rattle.pos_mapper.specs.Mapped.{by_slot, behind_slot, behind_among}
-use Rattle.pos_mapper.specs.Reading.{Slots, between_nodes, content_of, in_nodes, at_step, on_way, read}
+use Rattle.pos_mapper.specs.Reading.{Slots, between_nodes, content_of, in_nodes, read}
 
 -- ---- lists
 

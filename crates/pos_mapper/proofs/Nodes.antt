@@ -1,7 +1,6 @@
 -- What nodes are made of, and how many items they show.
-use Rattle.std.proofs.Common.{◌≡◌, ℕ, zero, suc, ◌+◌, ◌-◌, ◌^◌, ◌<◌, ◌≤◌, min, max, List, [], ◌∷◌, length, take, drop, Bool, true, false, Option, Some, None, option_map, option_and_then, append_assoc, ◌++◌, refl, sym, ap, ◌∙◌, subst, get_or, arith}
+use Rattle.std.proofs.Common.{◌≡◌, ℕ, zero, suc, ◌+◌, ◌-◌, ◌^◌, ◌<◌, ◌≤◌, min, max, List, [], ◌∷◌, length, drop, Option, Some, None, option_map, option_and_then, append_assoc, ◌++◌, refl, sym, ap, ◌∙◌, get_or, arith}
 use Rattle.std.proofs.lemmas.Bool.Decides.{nat_tests}
-use Rattle.std.specs.Prelude.{nat_lt, if◌then◌else◌}
 use Rattle.view_definitions.specs.Node.{Kind, ViewNode, ViewNodes, text, element, none, more, list_of, nodes_of, children_of, node_depth, inner_depth, depth_of}
 use Rattle.view_tree.specs.Changes.{node_text}
 use Rattle.downcast_definitions.specs.Meant.{length_by_kind, model_length, inner_length}

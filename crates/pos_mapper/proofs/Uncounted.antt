@@ -1,12 +1,11 @@
 -- What a place means doesn't hang on the counts of changes.
-use Rattle.std.proofs.Common.{◌≡◌, ℕ, zero, suc, ◌+◌, ◌-◌, List, [], ◌∷◌, length, map, take, drop, Bool, true, false, Option, Some, None, option_map, option_and_then, refl, sym, ap, ◌∙◌}
+use Rattle.std.proofs.Common.{◌≡◌, ℕ, zero, suc, ◌+◌, ◌-◌, List, [], ◌∷◌, length, take, drop, Option, Some, None, option_map, option_and_then, refl, ap, ◌∙◌}
 use Rattle.std.specs.Prelude.{slice_get, if◌then◌else◌, nat_le, nat_lt, ◌==◌}
-use Rattle.view_definitions.specs.Node.{Kind, container, attribute, empty, ui, ViewNode, ViewNodes, text, element, none, more, list_of, nodes_of, children_of}
+use Rattle.view_definitions.specs.Node.{ViewNode, ViewNodes, text, element, none, more, list_of, children_of}
 use Rattle.downcast_definitions.specs.Meant.{by_kind, length_by_kind, model_length, inner_length}
 use Rattle.pos_mapper.specs.Bindings.{Slot}
 use Rattle.pos_mapper.specs.Mapped.{uncounted_node, uncounted_nodes, uncounted}
-use Rattle.pos_mapper.specs.Reading.{Slots, Below, lengths, in_position, before_node, only_number, between_nodes, in_text, content_of, in_slot, in_node, in_nodes, at_step, on_way, read, reads}
-use Rattle.pos_mapper.proofs.Nodes.{nodes_of-list_of}
+use Rattle.pos_mapper.specs.Reading.{Slots, Below, lengths, in_position, before_node, only_number, between_nodes, content_of, in_slot, in_node, in_nodes, at_step, on_way, read}
 
 mutual
   node-length : (node : ViewNode) → model_length (uncounted_node node) ≡ model_length node

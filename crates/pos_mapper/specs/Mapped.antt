@@ -1,16 +1,18 @@
 -- When a mapper is that of a view and a document.
-use Rattle.std.specs.Prelude.{◌≡◌, ℕ, ◌+◌, List, [], ◌∷◌, length, IsSomeAnd, map, Option, Some, None, option_map, codes}
+use Rattle.std.specs.Prelude.{◌≡◌, ℕ, ◌+◌, List, [], ◌∷◌, length, IsSomeAnd, true, map, Option, Some, None, option_map, codes}
 use Rattle.item_definitions.specs.Item.{Item, Items, items_of}
 use Rattle.item_definitions.specs.Item as items
 use Rattle.document_definitions.specs.Document.{Document}
 use Rattle.view_definitions.specs.Node.{ViewNode, ViewNodes}
 use Rattle.view_definitions.specs.Node as nodes
 use Rattle.converter_definitions.specs.Form.{Form, Forms, slot, text, element, none, more, list_of}
-use Rattle.converter_definitions.specs.Shape.{slot_in}
+use Rattle.converter_definitions.specs.Shape.{slot_in, is_shape}
 use Rattle.converter_definitions.specs.Gives.{Conversion}
 use Rattle.downcast_definitions.specs.Scene.{Scene, scene_of, caret_of}
 use Rattle.downcast_definitions.specs.Rows.{elements_in, shape_at, numbered_downcast}
 use Rattle.downcast_definitions.specs.Seen.{content_place}
+use Rattle.downcast_definitions.specs.Meant.{meant}
+use Rattle.model_tree.specs.Limits.{IsTree}
 use Rattle.pos_mapper.specs.Bindings.{Slot, CaretPlace, Mapper, bound_id, bound_number, numbers_of}
 
 abbrev mutual
@@ -61,14 +63,32 @@ abbrev mutual
   AreBound mapper scene parent before (items.more item rest) =
       IsBound mapper scene parent before item × AreBound mapper scene parent (before + elements_in item) rest
 
+abbrev mutual
+  -- whether what an item becomes is a shape, if it is an element, and so is what each element in it becomes
+  pub IsShaped : Conversion → List ℕ → ℕ → Item → Type 0
+  IsShaped conversion parent before (items.character scalar attributes) = Unit {0}
+  IsShaped conversion parent before (items.element id name attributes children) =
+      (is_shape (shape_at conversion parent before name attributes).form ≡ true) × AreShaped conversion name 0 children
+
+  pub AreShaped : Conversion → List ℕ → ℕ → Items → Type 0
+  AreShaped conversion parent before items.none = Unit {0}
+  AreShaped conversion parent before (items.more item rest) =
+      IsShaped conversion parent before item × AreShaped conversion parent (before + elements_in item) rest
+
 -- where the caret of a document is seen
 abbrev pub caret_place : Conversion → Document → Option CaretPlace
 caret_place conversion document =
     option_map (λ here. record { at = here.at; place = content_place conversion document here.at }) (caret_of conversion document)
 
 -- whether these nodes are the view of a document whose view elements have the numbers that a mapper has bound, whatever their counts of
--- changes, and the mapper knows their slots and the caret's place
+-- changes, and the mapper knows their slots and the caret's place. What the elements become are shapes
 pub record IsMapped (conversion : Conversion) (document : Document) (mapper : Mapper) (nodes : List ViewNode) : Type 0 where
   pub view : uncounted nodes ≡ uncounted (numbered_downcast (numbers_of mapper) conversion document)
   pub bound : AreBound mapper (scene_of conversion document) (codes "$root") 0 (items_of document.items)
+  pub shapes : AreShaped conversion (codes "$root") 0 (items_of document.items)
   pub caret : mapper.caret ≡ caret_place conversion document
+
+-- That a place of the view means this, in each document that a mapper and the view's nodes are of: None where it means no position
+abbrev pub Means : Mapper → List ViewNode → List ℕ → Option (List ℕ) → Type 0
+Means mapper nodes place position =
+    (conversion : Conversion) (document : Document) → IsMapped conversion document mapper nodes → IsTree document.items → meant conversion document place ≡ position

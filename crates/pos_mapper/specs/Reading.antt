@@ -1,9 +1,9 @@
 -- What a place means, read from the nodes of a view and the slots of the view elements with numbers.
 use Rattle.std.specs.Prelude.{ℕ, ◌+◌, ◌-◌, ◌^◌, ◌==◌, nat_le, nat_lt, List, [], ◌∷◌, length, take, drop, Option, Some, None, option_map, option_and_then, slice_get, if◌then◌else◌}
 use Rattle.std.specs.List.{find}
-use Rattle.view_definitions.specs.Node.{ViewNode, ViewNodes, text, element, list_of, nodes_of, children_of}
+use Rattle.view_definitions.specs.Node.{ViewNode, text, element, list_of, nodes_of, children_of}
 use Rattle.downcast_definitions.specs.Meant.{by_kind, inner_length}
-use Rattle.pos_mapper.specs.Bindings.{Slot, Binding, Mapper}
+use Rattle.pos_mapper.specs.Bindings.{Slot, Binding}
 
 -- the slot of the view element with a number
 abbrev pub Slots : Type 0

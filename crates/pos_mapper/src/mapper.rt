@@ -1,14 +1,27 @@
 //! The mapper of a view.
-ghost use Rattle.std.specs.Prelude.{◌≡◌, [], None, OnOk, OnErr};
+ghost use Rattle.std.specs.Prelude.{◌≡◌, ◌++◌, [], ◌∷◌, None, Some, OnOk, OnErr, IfOk, IfErr};
 ghost use Rattle.pos_mapper.specs.Bindings.{numbers_of, with_binding};
+ghost use Rattle.pos_mapper.specs.Mapped.{Means};
 
 use crate::parts::{Binding, CaretPlace, Slot};
+use crate::reading::read_nodes;
 use crate::table::Table;
 use ck_base::NoMemory;
+use ck_base::path::Path;
+use model_pos::Position;
 use model_tree::id::ElementId;
 use std::alloc::Global;
 use std::marker::Model;
 use view_tree::node::ViewNumber;
+use view_tree::path::ViewPlace;
+use view_tree::view::View;
+
+/// Why a place of the view means no position of the document.
+#[derive(Clone, Copy, Debug, PartialEq, Eq)]
+pub enum MapFault {
+    /// The place isn't there, or isn't in the content of the root or of a slot.
+    NotInView,
+}
 
 /// Which view elements show the elements of a document, where their contents stand in them, and where the caret is seen.
 #[derive(Drop)]
@@ -73,6 +86,29 @@ impl Mapper {
         match self.table.of_id(id.value()) {
             Some(binding) => Some(binding.number),
             None => None,
+        }
+    }
+
+    /// The position of the document that a place of the view means. For a view and a document that this mapper is of it answers
+    /// `NotInView` exactly where the place isn't there, or isn't in the content of the root or of a slot: not in a list of nodes of this
+    /// content, nor, through attribute elements alone, in one below, nor in a text of such a list. It takes no memory.
+    pub fn to_model(
+        &self,
+        alloc: Global,
+        view: &View,
+        place: &ViewPlace,
+    ) -> Result<Position, MapFault>
+        ensures ok { IfOk result (λ position. Means self.now view.now.nodes (place.now.path ++ place.now.offset ∷ []) (Some position)) }
+        ensures not_in_view { IfErr result (λ fault. Means self.now view.now.nodes (place.now.path ++ place.now.offset ∷ []) None) }
+    {
+        let nodes = view.nodes().as_slice();
+        let path = place.path.as_slice();
+        match read_nodes(&self.table, nodes, 0, path, place.offset, Path::new(alloc)) {
+            Some(position) => match Position::new(alloc, position) {
+                Some(position) => Ok(position),
+                None => unreachable!(),
+            },
+            None => Err(MapFault::NotInView),
         }
     }
 }

@@ -1,5 +1,5 @@
 //! What places of the view mean, read from its nodes.
-ghost use Rattle.std.specs.Prelude.{◌≡◌, ◌≤◌, ◌++◌, [], ◌∷◌, length, option_map, option_and_then, option_copied};
+ghost use Rattle.std.specs.Prelude.{◌≡◌, ◌<◌, ◌≤◌, ◌++◌, [], ◌∷◌, length, IfSome, option_map, option_and_then, option_copied};
 ghost use Rattle.view_tree.specs.Kinds.{kind_of};
 ghost use Rattle.downcast_definitions.specs.Meant.{by_kind};
 ghost use Rattle.pos_mapper.specs.Reading.{slots_in, only_number, between_nodes, in_text, content_of, in_slot, in_node, in_nodes, read, reads, read_step};
@@ -14,7 +14,8 @@ use view_tree::node::{Detached, ViewNumber};
 /// A position so far, with its last number.
 fn with_last(made: Path, offset: Option<u32>) -> Option<Path>
     requires { length made ≤ 64 }
-    ensures { result ≡ option_map (λ position. made ++ position) (only_number offset) }
+    ensures some { IfSome result (λ path. 0 < length path) }
+    ensures position { result ≡ option_map (λ position. made ++ position) (only_number offset) }
 {
     let mut made = made;
     match offset {
@@ -29,7 +30,8 @@ fn with_last(made: Path, offset: Option<u32>) -> Option<Path>
 /// The position that a place between nodes means, before which so many items are shown.
 fn between_nodes(nodes: &[Detached], offset: u32, index: u64, made: Path) -> Option<Path>
     requires { length made ≤ 64 }
-    ensures { result ≡ option_map (λ position. made ++ position) (between_nodes offset nodes.now index) }
+    ensures some { IfSome result (λ path. 0 < length path) }
+    ensures position { result ≡ option_map (λ position. made ++ position) (between_nodes offset nodes.now index) }
 {
     let index = index as usize;
     if index <= nodes.len() {
@@ -42,7 +44,8 @@ fn between_nodes(nodes: &[Detached], offset: u32, index: u64, made: Path) -> Opt
 /// The position that a place in a text means.
 fn in_text(scalars: &[char], offset: u32, path: &[u64], last: u64, made: Path) -> Option<Path>
     requires { length made ≤ 64 }
-    ensures { result ≡ option_map (λ position. made ++ position) (in_text offset (length scalars.now) path.now last) }
+    ensures some { IfSome result (λ path. 0 < length path) }
+    ensures position { result ≡ option_map (λ position. made ++ position) (in_text offset (length scalars.now) path.now last) }
 {
     match path.split_first() {
         None => {
@@ -94,7 +97,8 @@ pub fn read_nodes(
     made: Path,
 ) -> Option<Path>
     requires { length made ≤ 64 }
-    ensures { result ≡ option_map (λ position. made ++ position) (read (slots_in table.now) (length made) [] 0 offset nodes.now path.now last) }
+    ensures some { IfSome result (λ path. 0 < length path) }
+    ensures position { result ≡ option_map (λ position. made ++ position) (read (slots_in table.now) (length made) [] 0 offset nodes.now path.now last) }
 {
     match path.split_first() {
         None => between_nodes(nodes, offset, last, made),
@@ -114,7 +118,8 @@ fn read_at(
     made: Path,
 ) -> Option<Path>
     requires { length made ≤ 64 }
-    ensures { result ≡ option_map (λ position. made ++ position) (in_nodes (slots_in table.now) (reads (slots_in table.now) path.now last) (length made) path.now last offset nodes.now index) }
+    ensures some { IfSome result (λ path. 0 < length path) }
+    ensures position { result ≡ option_map (λ position. made ++ position) (in_nodes (slots_in table.now) (reads (slots_in table.now) path.now last) (length made) path.now last offset nodes.now index) }
 {
     let index = index as usize;
     let Some(node) = nodes.get(index) else {
@@ -138,7 +143,8 @@ fn read_node(
     made: Path,
 ) -> Option<Path>
     requires { length made ≤ 64 }
-    ensures { result ≡ option_map (λ position. made ++ position) (in_node (slots_in table.now) (reads (slots_in table.now) path.now last) (length made) path.now last offset node.now) }
+    ensures some { IfSome result (λ path. 0 < length path) }
+    ensures position { result ≡ option_map (λ position. made ++ position) (in_node (slots_in table.now) (reads (slots_in table.now) path.now last) (length made) path.now last offset node.now) }
 {
     if let Some(text) = node.text() {
         return in_text(text.scalars(), offset, path, last, made);
@@ -171,7 +177,8 @@ fn read_element(
     made: Path,
 ) -> Option<Path>
     requires { length made ≤ 64 }
-    ensures { result ≡ option_map (λ position. made ++ position)
+    ensures some { IfSome result (λ path. 0 < length path) }
+    ensures position { result ≡ option_map (λ position. made ++ position)
         (by_kind (kind_of kind.now) (read (slots_in table.now) (length made) [] 0 offset children.now path.now last)
         (in_slot (reads (slots_in table.now) path.now last) (length made) offset children.now (option_and_then (slots_in table.now) number))) }
 {
@@ -196,7 +203,8 @@ fn read_inside(
     made: Path,
 ) -> Option<Path>
     requires { length made ≤ 64 }
-    ensures { result ≡ option_map (λ position. made ++ position) (in_slot (reads (slots_in table.now) path.now last) (length made) offset children.now (option_and_then (slots_in table.now) number)) }
+    ensures some { IfSome result (λ path. 0 < length path) }
+    ensures position { result ≡ option_map (λ position. made ++ position) (in_slot (reads (slots_in table.now) path.now last) (length made) offset children.now (option_and_then (slots_in table.now) number)) }
 {
     let Some(slot) = slot_of(table, number) else {
         return None;
@@ -230,7 +238,8 @@ fn read_slot(
     made: Path,
 ) -> Option<Path>
     requires { length made ≤ 64 }
-    ensures { result ≡ option_map (λ position. made ++ position) (read (slots_in table.now) (length made) way.now behind 0 nodes.now path.now last) }
+    ensures some { IfSome result (λ path. 0 < length path) }
+    ensures position { result ≡ option_map (λ position. made ++ position) (read (slots_in table.now) (length made) way.now behind 0 nodes.now path.now last) }
 {
     match way.split_first() {
         None => read_nodes(table, nodes, 0, path, last, made),
@@ -253,7 +262,8 @@ fn read_content(
     made: Path,
 ) -> Option<Path>
     requires { length made ≤ 64 }
-    ensures { result ≡ option_map (λ position. made ++ position) (read (slots_in table.now) (length made) (base ∷ []) behind 0 nodes.now path.now last) }
+    ensures some { IfSome result (λ path. 0 < length path) }
+    ensures position { result ≡ option_map (λ position. made ++ position) (read (slots_in table.now) (length made) (base ∷ []) behind 0 nodes.now path.now last) }
 {
     let content = content_of(nodes, base, behind);
     match path.split_first() {
@@ -287,7 +297,8 @@ fn read_step(
     made: Path,
 ) -> Option<Path>
     requires { length made ≤ 64 }
-    ensures { result ≡ option_map (λ position. made ++ position) (read_step (slots_in table.now) (length made) step way.now behind nodes.now path.now last) }
+    ensures some { IfSome result (λ path. 0 < length path) }
+    ensures position { result ≡ option_map (λ position. made ++ position) (read_step (slots_in table.now) (length made) step way.now behind nodes.now path.now last) }
 {
     let Some((index, rest)) = path.split_first() else {
         return None;

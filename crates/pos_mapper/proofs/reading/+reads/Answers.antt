@@ -3,8 +3,8 @@ use Rattle.pos_mapper.specs.Reading.{slots_in}
 use Rattle.pos_mapper.proofs.Nodes.{no_way}
 use Rattle.pos_mapper.proofs.reading.+reads.Goals as goal
 
-pub read_slot-returns-in-None : goal.read_slot-returns-in-None
-read_slot-returns-in-None t c =
-    c.read_nodes.ensures
+pub read_slot-returns-in-None-clause-position : goal.read_slot-returns-in-None-clause-position
+read_slot-returns-in-None-clause-position t c =
+    c.read_nodes.ensures.position
     ∙ ap (option_map (λ (position : List ℕ). c.args.made ++ position))
     (sym (no_way (slots_in c.args.table.now) (length c.args.made) c.args.way.now c.args.behind 0 c.args.nodes.now c.args.path.now c.args.last c.in-None.ensures.cases))
