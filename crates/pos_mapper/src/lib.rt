@@ -6,3 +6,5 @@ pub mod mapper;
 pub mod parts;
 mod reading;
 mod table;
+#[cfg(test)]
+mod tests;
