@@ -26,7 +26,8 @@ use Rattle.downcast_definitions.specs.Scene.{Scene, Caret, leaf_entry, leaves, c
 use Rattle.downcast_definitions.specs.Rows.{elements_in, entry_of, inner_row, shape_at, element_node}
 use Rattle.downcast_definitions.specs.Meant.{Inners, out_of_slot, meant_in, meant_in_element, inners_of, meant}
 use Rattle.pos_mapper.specs.Bindings.{Slot, Binding, Mapper, bound_id, bound_number, numbers_of}
-use Rattle.pos_mapper.specs.Mapped.{slot_of, behind_slot, IsBound, AreBound, IsShaped, AreShaped, IsMapped, Means}
+use Rattle.downcast_definitions.specs.Shown.{HasShape, HaveShapes}
+use Rattle.pos_mapper.specs.Mapped.{slot_of, behind_slot, IsBound, AreBound, IsMapped, Means}
 use Rattle.pos_mapper.specs.Reading.{Slots, slots_in, in_slot, read, reads}
 use Rattle.pos_mapper.proofs.Uncounted.{read-uncounted}
 use Rattle.pos_mapper.proofs.Filled as filled
@@ -230,7 +231,7 @@ same-layers mapper scene parent path before (items.element id name attributes ch
 
 mutual
   match-item : (mapper : Mapper) (scene : Scene) (item : Item) (parent path : List ℕ) (offset before depth : ℕ) (inners : Inners) → IsBound mapper scene parent before item
-      → IsShaped scene.conversion parent before item → depth + item_depth item ≤ 64 → item_count item < 2 ^ 32 → slice_get inners offset ≡ Some (meant_in_element scene parent path before item)
+      → HasShape scene.conversion parent before item → depth + item_depth item ≤ 64 → item_count item < 2 ^ 32 → slice_get inners offset ≡ Some (meant_in_element scene parent path before item)
       → MatchContent (slots_in mapper.bindings) inners depth offset (entry_of (numbered mapper scene) parent path before item).content (entry_of scene parent path before item).content
   match-item mapper scene (items.character scalar attributes) parent path offset before depth inners bound shaped deep few got = refl
   match-item mapper scene (items.element id name attributes children) parent path offset before depth inners bound shaped deep few got =
@@ -254,7 +255,7 @@ mutual
       ∙ sym (ap (λ found. option_map (λ position. offset ∷ position) (option_and_then (λ inner. inner (rest ++ last ∷ [])) found)) got))
 
   match-items : (mapper : Mapper) (scene : Scene) (items : Items) (parent path : List ℕ) (offset before depth : ℕ) (inners : Inners) → AreBound mapper scene parent before items
-      → AreShaped scene.conversion parent before items → depth + inner_depth items ≤ 64 → inner_count items < 2 ^ 32
+      → HaveShapes scene.conversion parent before items → depth + inner_depth items ≤ 64 → inner_count items < 2 ^ 32
       → ((k : ℕ) → slice_get inners (offset + k) ≡ slice_get (inners_of scene parent path offset before items) k)
       → MatchRow (slots_in mapper.bindings) inners depth offset (inner_row (numbered mapper scene) parent path offset before items) (inner_row scene parent path offset before items)
   match-items mapper scene items.none parent path offset before depth inners bound shaped deep few got =

@@ -1,16 +1,17 @@
 -- When a mapper is that of a view and a document.
-use Rattle.std.specs.Prelude.{◌≡◌, ℕ, ◌+◌, List, [], ◌∷◌, length, IsSomeAnd, true, map, Option, Some, None, option_map, codes}
+use Rattle.std.specs.Prelude.{◌≡◌, ℕ, ◌+◌, List, [], ◌∷◌, length, IsSomeAnd, map, Option, Some, None, option_map, codes}
 use Rattle.item_definitions.specs.Item.{Item, Items, items_of}
 use Rattle.item_definitions.specs.Item as items
 use Rattle.document_definitions.specs.Document.{Document}
 use Rattle.view_definitions.specs.Node.{ViewNode, ViewNodes}
 use Rattle.view_definitions.specs.Node as nodes
 use Rattle.converter_definitions.specs.Form.{Form, Forms, slot, text, element, none, more, list_of}
-use Rattle.converter_definitions.specs.Shape.{slot_in, is_shape}
+use Rattle.converter_definitions.specs.Shape.{slot_in}
 use Rattle.converter_definitions.specs.Gives.{Conversion}
 use Rattle.downcast_definitions.specs.Scene.{Scene, scene_of, caret_of}
 use Rattle.downcast_definitions.specs.Rows.{elements_in, shape_at, numbered_downcast}
 use Rattle.downcast_definitions.specs.Seen.{content_place}
+use Rattle.downcast_definitions.specs.Shown.{HasShapes}
 use Rattle.downcast_definitions.specs.Meant.{meant}
 use Rattle.model_tree.specs.Limits.{IsTree}
 use Rattle.pos_mapper.specs.Bindings.{Slot, CaretPlace, Mapper, bound_id, bound_number, numbers_of}
@@ -63,18 +64,6 @@ abbrev mutual
   AreBound mapper scene parent before (items.more item rest) =
       IsBound mapper scene parent before item × AreBound mapper scene parent (before + elements_in item) rest
 
-abbrev mutual
-  -- whether what an item becomes is a shape, if it is an element, and so is what each element in it becomes
-  pub IsShaped : Conversion → List ℕ → ℕ → Item → Type 0
-  IsShaped conversion parent before (items.character scalar attributes) = Unit {0}
-  IsShaped conversion parent before (items.element id name attributes children) =
-      (is_shape (shape_at conversion parent before name attributes).form ≡ true) × AreShaped conversion name 0 children
-
-  pub AreShaped : Conversion → List ℕ → ℕ → Items → Type 0
-  AreShaped conversion parent before items.none = Unit {0}
-  AreShaped conversion parent before (items.more item rest) =
-      IsShaped conversion parent before item × AreShaped conversion parent (before + elements_in item) rest
-
 -- where the caret of a document is seen
 abbrev pub caret_place : Conversion → Document → Option CaretPlace
 caret_place conversion document =
@@ -85,7 +74,7 @@ caret_place conversion document =
 pub record IsMapped (conversion : Conversion) (document : Document) (mapper : Mapper) (nodes : List ViewNode) : Type 0 where
   pub view : uncounted nodes ≡ uncounted (numbered_downcast (numbers_of mapper) conversion document)
   pub bound : AreBound mapper (scene_of conversion document) (codes "$root") 0 (items_of document.items)
-  pub shapes : AreShaped conversion (codes "$root") 0 (items_of document.items)
+  pub shapes : HasShapes conversion document
   pub caret : mapper.caret ≡ caret_place conversion document
 
 -- That a place of the view means this, in each document that a mapper and the view's nodes are of: None where it means no position
