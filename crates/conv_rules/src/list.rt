@@ -1,8 +1,10 @@
 //! The list of converters.
 ghost use Rattle.std.specs.Prelude.{◌≡◌, ◌≤◌, [], length, OnOk, OnErr};
+ghost use Rattle.schema_definitions.specs.Names.{has};
 ghost use Rattle.conv_rules.specs.Listed.{added, converter_of, conversion_of, listed, listed_of, place_behind};
 
 use crate::converter::Converter;
+use crate::stock::has;
 use ck_base::NoMemory;
 use ck_base::name::Name;
 use ck_base::priority::Priority;
@@ -60,6 +62,20 @@ impl ConverterList {
         let place = place_behind(self.entries.as_slice(), priority);
         self.entries.insert(place, Listed { priority, entry })?;
         Ok(())
+    }
+
+    /// Whether elements of a name are objects in the text. It takes no memory.
+    pub fn is_object(&self, name: &Name) -> bool
+        ensures { result ≡ has (conversion_of (λ object. gives object) self.now).objects name.now }
+    {
+        has(self.objects.as_slice(), name)
+    }
+
+    /// Whether elements of a name are counted in their parents. It takes no memory.
+    pub fn is_indexed(&self, name: &Name) -> bool
+        ensures { result ≡ has (conversion_of (λ object. gives object) self.now).indexed name.now }
+    {
+        has(self.indexed.as_slice(), name)
     }
 }
 

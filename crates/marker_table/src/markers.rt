@@ -74,6 +74,13 @@ impl Markers {
         self.table.get(name)
     }
 
+    /// The markers with their ranges, in the order of the names' bytes. It takes no memory.
+    pub fn iter(&self) -> indexmap::map::Iter<'_, Name, Range>
+        ensures { result ≡ self.now }
+    {
+        self.table.iter()
+    }
+
     /// Adds a marker. It answers `Exists` exactly where there is a marker of this name, and `NoMemory`; then nothing has changed.
     pub fn add(&mut self, name: Name, range: Range) -> Result<(), MarkerFault>
         ensures ok { OnOk result (self.new ≡ with_value name range self.old) }
