@@ -103,7 +103,8 @@ outermost-item number content (element Container name attributes children) e = r
 outermost-item number content (element Empty name attributes children) e = refl
 outermost-item number content (element Ui name attributes children) e = cc
 
-entry-stands : (scene : Scene) (parent path : List ℕ) (before : ℕ) (of : Item) → HasShape scene.conversion parent before of → may_stand (entry_of scene parent path before of).content ≡ true
+-- the entry of an item may stand there
+pub entry-stands : (scene : Scene) (parent path : List ℕ) (before : ℕ) (of : Item) → HasShape scene.conversion parent before of → may_stand (entry_of scene parent path before of).content ≡ true
 entry-stands scene parent path before (items.character scalar attributes) h = refl
 entry-stands scene parent path before (items.element id name attributes children) h =
     let form = (shape_at scene.conversion parent before name attributes).form in

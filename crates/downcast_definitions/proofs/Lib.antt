@@ -5,3 +5,4 @@ pub mod Boundaries
 pub mod Slots
 pub mod Items
 pub mod Inverse
+pub mod Numbering
