@@ -1,0 +1,14 @@
+pub mod Filling
+pub mod Seams
+pub mod Around
+pub mod Found
+pub mod Writing
+pub mod Ways
+pub mod Rows
+pub mod Finish
+pub mod Bindings
+pub mod Making
+pub mod Partway
+pub mod Places
+pub mod Mapping
+pub mod Boundary

@@ -1,0 +1,10 @@
+pub mod Fill
+pub mod Between
+pub mod Written
+pub mod Viewed
+pub mod Bound
+pub mod Found
+pub mod Scenes
+pub mod Ways
+pub mod Front
+pub mod Made
