@@ -52,8 +52,8 @@ put-plain (layer ∷ layers) content (first (bare next) pieces) =
     ap (λ made. first (wrapped layer made) (first (bare (plain_content next)) (plain_pieces pieces))) (put-plain layers content nothing)
 put-plain (layer ∷ layers) content (first (wrapped other inner) pieces) =
     elim (same_layer layer other) as (λ b. plain_pieces (if b then first (wrapped layer (put layers content inner)) pieces else first (wrapped layer (put layers content nothing)) (first (wrapped other inner) pieces))
-      ≡ (if b then first (wrapped layer (put layers (plain_content content) (plain_pieces inner))) (plain_pieces pieces)
-        else first (wrapped layer (put layers (plain_content content) nothing)) (first (wrapped other (plain_pieces inner)) (plain_pieces pieces)))) [
+    ≡ (if b then first (wrapped layer (put layers (plain_content content) (plain_pieces inner))) (plain_pieces pieces)
+    else first (wrapped layer (put layers (plain_content content) nothing)) (first (wrapped other (plain_pieces inner)) (plain_pieces pieces)))) [
       | true ↦ ap (λ made. first (wrapped layer made) (plain_pieces pieces)) (put-plain layers content inner)
       | false ↦ ap (λ made. first (wrapped layer made) (first (wrapped other (plain_pieces inner)) (plain_pieces pieces))) (put-plain layers content nothing)
     ]
@@ -147,8 +147,8 @@ module _ (conversion : Conversion) (markers : Markers) (there : Option Caret) wh
   boundary-plain numbers position =
       map-append plain_entry (leaves (numbered numbers) (ends_at position)) (leaves (numbered numbers) (starts_at position) ++ carets there position)
       ∙ (λ i. leaves-plain conversion.converters (ends_at position) markers i
-        ++ (map-append plain_entry (leaves (numbered numbers) (starts_at position)) (carets there position)
-        ∙ (λ j. leaves-plain conversion.converters (starts_at position) markers j ++ carets-plain there position j)) i)
+      ++ (map-append plain_entry (leaves (numbered numbers) (starts_at position)) (carets there position)
+      ∙ (λ j. leaves-plain conversion.converters (starts_at position) markers j ++ carets-plain there position j)) i)
 
   mutual
     entry-plain : (numbers : Numbers) (parent path : List ℕ) (before : ℕ) (of : Item) → plain_entry (entry_of (numbered numbers) parent path before of) ≡ entry_of (numbered unnumbered) parent path before of
@@ -164,7 +164,7 @@ module _ (conversion : Conversion) (markers : Markers) (there : Option Caret) wh
     inner-plain numbers parent path offset before (items.more of rest) =
         map-append plain_entry (boundary (numbered numbers) (path ++ offset ∷ [])) (entry_of (numbered numbers) parent (path ++ offset ∷ []) before of ∷ inner_row (numbered numbers) parent path (offset + 1) (before + elements_in of) rest)
         ∙ (λ i. boundary-plain numbers (path ++ offset ∷ []) i
-          ++ (entry-plain numbers parent (path ++ offset ∷ []) before of i ∷ inner-plain numbers parent path (offset + 1) (before + elements_in of) rest i))
+        ++ (entry-plain numbers parent (path ++ offset ∷ []) before of i ∷ inner-plain numbers parent path (offset + 1) (before + elements_in of) rest i))
 
 -- the content of a document's view whose elements are numbered is the view without numbers
 pub numbers-dropped : (numbers : Numbers) (conversion : Conversion) (document : Document) → content (numbered_downcast numbers conversion document) ≡ downcast conversion document
@@ -201,7 +201,7 @@ found-plain found (first (bare next) pieces) number passed =
     ∙ ap (λ place. if number == 0 then found passed (begins_with_text pieces) else place) (found-plain found pieces (number - 1) (behind_content next passed))
 found-plain found (first (wrapped layer inner) pieces) number passed =
     (λ i. if nat_lt number (size-plain inner i) then passed.nodes ∷ found-plain found inner number none_passed i
-      else in_pieces found (plain_pieces pieces) (number - size-plain inner i) (node_more passed))
+    else in_pieces found (plain_pieces pieces) (number - size-plain inner i) (node_more passed))
     ∙ ap (λ place. if nat_lt number (pieces_size inner) then passed.nodes ∷ in_pieces found inner number none_passed else place)
     (found-plain found pieces (number - pieces_size inner) (node_more passed))
 
