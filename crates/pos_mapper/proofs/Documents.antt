@@ -130,7 +130,7 @@ is_within x y t = grind (arith, nat_tests)
 is_below : (x y : ℕ) → x < y → nat_lt x y ≡ true
 is_below x y t = grind (arith, nat_tests)
 
-one_slot : (form : Form ViewAttributes) → is_shape form ≡ true → slot_count form ≤ 1
+pub one_slot : (form : Form ViewAttributes) → is_shape form ≡ true → slot_count form ≤ 1
 one_slot form e =
     let a = first_true (is_outermost form && fits form && nat_le (slot_count form) 1 && nat_le (form_count form) 32) (nat_le (form_depth form) 8) e in
     let b = first_true (is_outermost form && fits form && nat_le (slot_count form) 1) (nat_le (form_count form) 32) a in
@@ -177,7 +177,7 @@ read-shape slots depth offset made number row means d e h path last = go made.fo
         ∙ filled.among slots (depth + 1) (nest row) means h children [] 0 way refl f (one_slot (element kind name attributes children) e) path last)
 
 -- the slot of an element is found by the number of its view element
-bound-slot : (mapper : Mapper) (id : ℕ) (wanted : Option Slot)
+pub bound-slot : (mapper : Mapper) (id : ℕ) (wanted : Option Slot)
     → IsSomeAnd (bound_id id mapper) (λ binding. option_map (λ bound. bound.slot) (bound_number binding.number mapper) ≡ Some wanted)
     → option_and_then (slots_in mapper.bindings) (numbers_of mapper id) ≡ wanted
 bound-slot mapper id wanted h = go (bound_id id mapper) h

@@ -15,7 +15,7 @@ use Rattle.pos_mapper.specs.Reading.{Slots, between_nodes, content_of, in_nodes,
 
 -- ---- lists
 
-get-behind : (front : List ViewNode) (node : ViewNode) (back : List ViewNode) → slice_get (front ++ node ∷ back) (length front) ≡ Some node
+pub get-behind : (front : List ViewNode) (node : ViewNode) (back : List ViewNode) → slice_get (front ++ node ∷ back) (length front) ≡ Some node
 get-behind [] node back = refl
 get-behind (first ∷ front) node back = get-behind front node back
 
@@ -28,7 +28,7 @@ take-front [] back = refl
 take-front (first ∷ front) back = ap (λ list. first ∷ list) (take-front front back)
 
 -- the content is what stands between the nodes before and behind it
-content-between : (front content back : List ViewNode) (base behind : ℕ) → base ≡ length front → behind ≡ length back → content_of base behind (front ++ (content ++ back)) ≡ content
+pub content-between : (front content back : List ViewNode) (base behind : ℕ) → base ≡ length front → behind ≡ length back → content_of base behind (front ++ (content ++ back)) ≡ content
 content-between front content back base behind b e =
     let all : length (front ++ (content ++ back)) ≡ length front + (length content + length back) =
     (length-append front (content ++ back) ∙ ap (λ n. length front + n) (length-append content back)) in
@@ -44,12 +44,12 @@ no-sum-behind : (a b : ℕ) → a + b ≡ 0 → b ≡ 0
 no-sum-behind a b e = omega (arith, e)
 
 -- a node of a shape without a slot stands for one node
-one-node : (content : List ViewNode) (form : Form ViewAttributes) → slot_count form ≡ 0 → length (filled content form) ≡ 1
+pub one-node : (content : List ViewNode) (form : Form ViewAttributes) → slot_count form ≡ 0 → length (filled content form) ≡ 1
 one-node content slot e = absurd (omega (arith, e))
 one-node content (text scalars) e = refl
 one-node content (element kind name attributes children) e = refl
 
-all-nodes : (content : List ViewNode) (forms : Forms ViewAttributes) → inner_slots forms ≡ 0 → length (filled_inner content forms) ≡ length (list_of forms)
+pub all-nodes : (content : List ViewNode) (forms : Forms ViewAttributes) → inner_slots forms ≡ 0 → length (filled_inner content forms) ≡ length (list_of forms)
 all-nodes content none e = refl
 all-nodes content (more form forms) e =
     let one : length (filled content form) ≡ 1 = one-node content form (no-sum _ _ e) in
@@ -58,7 +58,7 @@ all-nodes content (more form forms) e =
 
 mutual
   -- where a slot is, there is one
-  none-in : (form : Form ViewAttributes) → slot_in form ≡ None → slot_count form ≡ 0
+  pub none-in : (form : Form ViewAttributes) → slot_in form ≡ None → slot_count form ≡ 0
   none-in slot e = cc
   none-in (text scalars) e = refl
   none-in (element kind name attributes children) e = none-among 0 children e
@@ -89,7 +89,7 @@ mutual
       go (Some inner) f g one rest = (let a : 1 ≤ slot_count form = one inner f in omega (arith, a))
 
 -- the way to a slot among shapes is not empty
-never : (index : ℕ) (forms : Forms ViewAttributes) → slot_among index forms ≡ Some [] → ⊥
+pub never : (index : ℕ) (forms : Forms ViewAttributes) → slot_among index forms ≡ Some [] → ⊥
 never index none e = cc
 never index (more form forms) e = go (slot_in form) e (never (index + 1) forms)
   where

@@ -8,7 +8,7 @@ use Rattle.pos_mapper.specs.Mapped.{uncounted_node, uncounted_nodes, uncounted}
 use Rattle.pos_mapper.specs.Reading.{Slots, Below, lengths, in_position, before_node, only_number, between_nodes, content_of, in_slot, in_node, in_nodes, at_step, on_way, read}
 
 mutual
-  node-length : (node : ViewNode) → model_length (uncounted_node node) ≡ model_length node
+  pub node-length : (node : ViewNode) → model_length (uncounted_node node) ≡ model_length node
   node-length (text scalars) = refl
   node-length (element head children) = ap (length_by_kind head.kind) (inner-length children)
 
@@ -16,7 +16,7 @@ mutual
   inner-length none = refl
   inner-length (more node nodes) = λ i. node-length node i + inner-length nodes i
 
-list_of-uncounted : (nodes : ViewNodes) → list_of (uncounted_nodes nodes) ≡ uncounted (list_of nodes)
+pub list_of-uncounted : (nodes : ViewNodes) → list_of (uncounted_nodes nodes) ≡ uncounted (list_of nodes)
 list_of-uncounted none = refl
 list_of-uncounted (more node nodes) = ap (λ list. uncounted_node node ∷ list) (list_of-uncounted nodes)
 
@@ -34,11 +34,11 @@ drop-uncounted zero nodes = refl
 drop-uncounted (suc count) [] = refl
 drop-uncounted (suc count) (node ∷ nodes) = drop-uncounted count nodes
 
-length-uncounted : (nodes : List ViewNode) → length (uncounted nodes) ≡ length nodes
+pub length-uncounted : (nodes : List ViewNode) → length (uncounted nodes) ≡ length nodes
 length-uncounted [] = refl
 length-uncounted (node ∷ nodes) = ap suc (length-uncounted nodes)
 
-get-uncounted : (nodes : List ViewNode) (index : ℕ) → slice_get (uncounted nodes) index ≡ option_map uncounted_node (slice_get nodes index)
+pub get-uncounted : (nodes : List ViewNode) (index : ℕ) → slice_get (uncounted nodes) index ≡ option_map uncounted_node (slice_get nodes index)
 get-uncounted [] index = refl
 get-uncounted (node ∷ nodes) zero = refl
 get-uncounted (node ∷ nodes) (suc index) = get-uncounted nodes index
@@ -50,7 +50,7 @@ between-uncounted : (offset : ℕ) (nodes : List ViewNode) (index : ℕ) → bet
 between-uncounted offset nodes index =
     λ i. if nat_le index (length-uncounted nodes i) then only_number (before-uncounted offset index nodes i) else None
 
-content-uncounted : (base behind : ℕ) (nodes : List ViewNode) → content_of base behind (uncounted nodes) ≡ uncounted (content_of base behind nodes)
+pub content-uncounted : (base behind : ℕ) (nodes : List ViewNode) → content_of base behind (uncounted nodes) ≡ uncounted (content_of base behind nodes)
 content-uncounted base behind nodes =
     (λ i. take (length-uncounted nodes i - base - behind) (drop-uncounted base nodes i)) ∙ take-uncounted (length nodes - base - behind) (drop base nodes)
 

@@ -4,3 +4,4 @@ pub mod Keys
 pub mod Mapped
 pub mod Parts
 pub mod Reading
+pub mod Seeking

@@ -2,6 +2,7 @@
 use Rattle.std.specs.Prelude.{◌≡◌, ℕ, ◌+◌, List, [], ◌∷◌, length, IsSomeAnd, map, Option, Some, None, option_map, codes}
 use Rattle.item_definitions.specs.Item.{Item, Items, items_of}
 use Rattle.item_definitions.specs.Item as items
+use Rattle.item_definitions.specs.Position.{IsIn}
 use Rattle.document_definitions.specs.Document.{Document}
 use Rattle.view_definitions.specs.Node.{ViewNode, ViewNodes}
 use Rattle.view_definitions.specs.Node as nodes
@@ -10,7 +11,7 @@ use Rattle.converter_definitions.specs.Shape.{slot_in}
 use Rattle.converter_definitions.specs.Gives.{Conversion}
 use Rattle.downcast_definitions.specs.Scene.{Scene, scene_of, caret_of}
 use Rattle.downcast_definitions.specs.Rows.{elements_in, shape_at, numbered_downcast}
-use Rattle.downcast_definitions.specs.Seen.{content_place}
+use Rattle.downcast_definitions.specs.Seen.{content_place, seen}
 use Rattle.downcast_definitions.specs.Shown.{HasShapes}
 use Rattle.downcast_definitions.specs.Meant.{meant}
 use Rattle.model_tree.specs.Limits.{IsTree}
@@ -81,3 +82,8 @@ pub record IsMapped (conversion : Conversion) (document : Document) (mapper : Ma
 abbrev pub Means : Mapper → List ViewNode → List ℕ → Option (List ℕ) → Type 0
 Means mapper nodes place position =
     (conversion : Conversion) (document : Document) → IsMapped conversion document mapper nodes → IsTree document.items → meant conversion document place ≡ position
+
+-- That a position is seen at this place, in each document that a mapper and the view's nodes are of and that has the position
+abbrev pub Shows : Mapper → List ViewNode → List ℕ → List ℕ → Type 0
+Shows mapper nodes position place =
+    (conversion : Conversion) (document : Document) → IsMapped conversion document mapper nodes → IsIn document.items position → seen conversion document position ≡ place

@@ -5,6 +5,7 @@ mod lengths;
 pub mod mapper;
 pub mod parts;
 mod reading;
+mod seeking;
 mod table;
 #[cfg(test)]
 mod tests;

@@ -1,10 +1,12 @@
 //! The mapper of a view.
-ghost use Rattle.std.specs.Prelude.{◌≡◌, ◌++◌, [], ◌∷◌, None, Some, OnOk, OnErr, IfOk, IfErr};
+ghost use Rattle.std.specs.Prelude.{◌≡◌, ◌<◌, ◌++◌, [], ◌∷◌, length, None, Some, OnOk, OnErr, IfOk, IfErr, option_map, option_copied};
+ghost use Rattle.std.specs.Option.{option_map_or};
 ghost use Rattle.pos_mapper.specs.Bindings.{numbers_of, with_binding};
-ghost use Rattle.pos_mapper.specs.Mapped.{Means};
+ghost use Rattle.pos_mapper.specs.Mapped.{Shows, Means};
 
 use crate::parts::{Binding, CaretPlace, Slot};
 use crate::reading::read_nodes;
+use crate::seeking::push_shown;
 use crate::table::Table;
 use ck_base::NoMemory;
 use ck_base::path::Path;
@@ -13,7 +15,7 @@ use model_tree::id::ElementId;
 use std::alloc::Global;
 use std::marker::Model;
 use view_tree::node::ViewNumber;
-use view_tree::path::ViewPlace;
+use view_tree::path::{ViewPath, ViewPlace};
 use view_tree::view::View;
 
 /// Why a place of the view means no position of the document.
@@ -89,6 +91,55 @@ impl Mapper {
         }
     }
 
+    /// The place where the view shows a position. For a view and a document that this mapper is of, and a position of this document, it is the
+    /// caret's place where the caret stands; else behind the character before the position, in its text; else before the character behind it, at
+    /// the start of its text; else between the nodes there, in the attribute elements that go on across it. A position in an element without a
+    /// slot is seen where the position before the outermost such element is. Offsets in a text count Unicode scalar values. It answers
+    /// `NoMemory` alone beside Ok. (After `Mapper.toViewPosition` of CKEditor 5.)
+    pub fn to_view(
+        &self,
+        alloc: Global,
+        view: &View,
+        position: &Position,
+    ) -> Result<ViewPlace, NoMemory>
+        ensures { IfOk result (λ place. Shows self.now view.now.nodes position.now (place.path ++ place.offset ∷ [])) }
+    {
+        let nodes = view.nodes().as_slice();
+        let numbers = position.as_slice();
+        let caret = self.caret_at();
+        let mut place = Vec::new(alloc);
+        push_shown(
+            &self.table,
+            nodes,
+            0,
+            caret,
+            self.caret_place(),
+            numbers,
+            &mut place,
+        )?;
+        Ok(as_view_place(place))
+    }
+
+    /// The caret's position, if there is a caret.
+    fn caret_at(&self) -> Option<&[u32]>
+        ensures { option_copied result ≡ option_map (λ caret. caret.at) self.now.caret }
+    {
+        match &self.caret {
+            Some(caret) => Some(caret.at.as_slice()),
+            None => None,
+        }
+    }
+
+    /// Where the caret is seen in the content of its parent; nothing without a caret.
+    fn caret_place(&self) -> &[u64]
+        ensures { result.now ≡ option_map_or (λ caret. caret.place) self.now.caret [] }
+    {
+        match &self.caret {
+            Some(caret) => caret.place.as_slice(),
+            None => &[],
+        }
+    }
+
     /// The position of the document that a place of the view means. For a view and a document that this mapper is of it answers
     /// `NotInView` exactly where the place isn't there, or isn't in the content of the root or of a slot: not in a list of nodes of this
     /// content, nor, through attribute elements alone, in one below, nor in a text of such a list. It takes no memory.
@@ -110,5 +161,17 @@ impl Mapper {
             },
             None => Err(MapFault::NotInView),
         }
+    }
+}
+
+/// The place of the view at the end of these indices.
+fn as_view_place(indices: Vec<u64>) -> ViewPlace
+    ensures { 0 < length indices.items → result.path ++ result.offset ∷ [] ≡ indices.items }
+{
+    let mut indices = indices;
+    let offset = indices.pop().unwrap_or(0);
+    ViewPlace {
+        path: ViewPath::new(indices),
+        offset,
     }
 }

@@ -1,5 +1,5 @@
 //! What places of the view mean, read from its nodes.
-ghost use Rattle.std.specs.Prelude.{◌≡◌, ◌<◌, ◌≤◌, ◌++◌, [], ◌∷◌, length, IfSome, option_map, option_and_then, option_copied};
+ghost use Rattle.std.specs.Prelude.{◌≡◌, ◌<◌, ◌≤◌, ◌+◌, ◌^◌, ◌++◌, [], ◌∷◌, length, IfSome, option_map, option_and_then, option_copied};
 ghost use Rattle.view_tree.specs.Kinds.{kind_of};
 ghost use Rattle.downcast_definitions.specs.Meant.{by_kind};
 ghost use Rattle.pos_mapper.specs.Reading.{slots_in, only_number, between_nodes, in_text, content_of, in_slot, in_node, in_nodes, read, reads, read_step};
@@ -60,8 +60,9 @@ fn in_text(scalars: &[char], offset: u32, path: &[u64], last: u64, made: Path) -
 }
 
 /// The nodes of a list from a base on, but for so many behind them.
-fn content_of(nodes: &[Detached], base: u64, behind: u64) -> &[Detached]
-    ensures { result.now ≡ content_of base behind nodes.now }
+pub fn content_of(nodes: &[Detached], base: u64, behind: u64) -> &[Detached]
+    ensures content { result.now ≡ content_of base behind nodes.now }
+    ensures small { base + length result.now < 2 ^ 64 }
 {
     let count = nodes.len() as u64;
     if base > count {
@@ -74,7 +75,7 @@ fn content_of(nodes: &[Detached], base: u64, behind: u64) -> &[Detached]
 }
 
 /// The slot of the view element with a number, if it has one.
-fn slot_of(table: &Table, number: Option<ViewNumber>) -> Option<&Slot>
+pub fn slot_of(table: &Table, number: Option<ViewNumber>) -> Option<&Slot>
     ensures { option_copied result ≡ option_and_then (slots_in table.now) number }
 {
     let Some(number) = number else {

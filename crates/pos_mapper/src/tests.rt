@@ -97,10 +97,37 @@ fn places_mean_positions(rt: HostRuntime) -> Result<(), Fail> {
 
 /// A caret at the start of the root, which is seen before all nodes.
 fn caret(alloc: Global) -> Option<CaretPlace> {
-    let mut path = Path::new(alloc);
-    path.push(0);
-    match Position::new(alloc, path) {
+    match in_root(alloc, 0) {
         Some(at) => Some(CaretPlace::new(at, Vec::new(alloc))),
         None => None,
     }
+}
+
+/// A position of one number, in the root.
+fn in_root(alloc: Global, offset: u32) -> Option<Position> {
+    let mut path = Path::new(alloc);
+    path.push(offset);
+    Position::new(alloc, path)
+}
+
+/// Whether a position in the root is shown in the first node at an offset.
+fn is_shown(mapper: &Mapper, view: &View, alloc: Global, position: u32, offset: u64) -> bool {
+    let Some(position) = in_root(alloc, position) else {
+        return false;
+    };
+    match mapper.to_view(alloc, view, &position) {
+        Ok(place) => place.path.as_slice() == [0u64].as_slice() && place.offset == offset,
+        Err(_) => false,
+    }
+}
+
+/// A position beside characters is shown in their text.
+#[test]
+fn positions_are_shown(rt: HostRuntime) -> Result<(), Fail> {
+    let alloc = rt.alloc();
+    let view = letters(alloc)?;
+    let mapper = Mapper::new(alloc);
+    assert!(rt; is_shown(&mapper, &view, alloc, 0, 0));
+    assert!(rt; is_shown(&mapper, &view, alloc, 2, 2));
+    Ok(())
 }

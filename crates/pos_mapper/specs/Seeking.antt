@@ -1,0 +1,141 @@
+-- Where nodes of a view show a position, read from the nodes and the slots of the view elements with numbers.
+use Rattle.std.specs.Prelude.{ℕ, ◌+◌, ◌-◌, zero, suc, nat_lt, nat_le, ◌==◌, List, [], ◌∷◌, ◌++◌, length, Bool, true, false, Option, Some, None, option_and_then, slice_get, if◌then◌else◌}
+use Rattle.std.specs.Option.{option_map_or}
+use Rattle.view_definitions.specs.Node.{Kind, container, attribute, empty, ui, ViewNode, ViewNodes, text, element, none, more, list_of, nodes_of, children_of}
+use Rattle.downcast_definitions.specs.Meant.{model_length}
+use Rattle.pos_mapper.specs.Bindings.{Slot}
+use Rattle.pos_mapper.specs.Parts.{node_number}
+use Rattle.pos_mapper.specs.Reading.{Slots, content_of}
+
+-- in an attribute element, or elsewhere
+abbrev pub by_around : {A : Type 0} → Kind → A → A → A
+by_around container around elsewhere = elsewhere
+by_around (attribute priority id) around elsewhere = around
+by_around empty around elsewhere = elsewhere
+by_around ui around elsewhere = elsewhere
+
+abbrev mutual
+  -- where the item of this number stands in a node: a character in its text, or so many characters further; an element as the node
+  pub place_in : ℕ → ViewNode → ℕ → List ℕ
+  place_in further (text scalars) number = (number + further) ∷ []
+  place_in further (element head children) number = by_around head.kind (place_among further children number 0) []
+
+  -- where the item of this number stands among nodes, the first of which has this index
+  pub place_among : ℕ → ViewNodes → ℕ → ℕ → List ℕ
+  place_among further none number index = []
+  place_among further (more node nodes) number index =
+      if nat_lt number (model_length node) then index ∷ place_in further node number
+      else place_among further nodes (number - model_length node) (index + 1)
+
+abbrev mutual
+  -- the node of the item of this number in a node; a character's is its text
+  pub item_in : ViewNode → ℕ → Option ViewNode
+  item_in (text scalars) number = Some (text scalars)
+  item_in (element head children) number = by_around head.kind (item_among children number) (Some (element head children))
+
+  pub item_among : ViewNodes → ℕ → Option ViewNode
+  item_among none number = None
+  item_among (more node nodes) number =
+      if nat_lt number (model_length node) then item_in node number else item_among nodes (number - model_length node)
+
+abbrev mutual
+  -- between the items before and behind a boundary in a node: in an attribute element that goes on across it
+  pub gap_in : ViewNode → ℕ → List ℕ
+  gap_in (text scalars) number = []
+  gap_in (element head children) zero = []
+  gap_in (element head children) (suc number) = by_around head.kind (gap_among children (suc number) 0) []
+
+  -- among nodes, behind all that show no item
+  pub gap_among : ViewNodes → ℕ → ℕ → List ℕ
+  gap_among none number index = index ∷ []
+  gap_among (more node nodes) number index =
+      if nat_lt number (model_length node) then index ∷ gap_in node number else gap_among nodes (number - model_length node) (index + 1)
+
+-- whether an item is a character
+abbrev pub is_character : Option ViewNode → Bool
+is_character None = false
+is_character (Some (text scalars)) = true
+is_character (Some (element head children)) = false
+
+-- before the character behind a boundary, or between the items there; the first of the nodes has this index
+abbrev pub before_item : ViewNodes → ℕ → ℕ → List ℕ
+before_item nodes number base = if is_character (item_among nodes number) then place_among 0 nodes number base else gap_among nodes number base
+
+-- where a boundary is seen at which the caret doesn't stand
+abbrev pub seen_among : ViewNodes → ℕ → ℕ → List ℕ
+seen_among nodes zero base = before_item nodes zero base
+seen_among nodes (suc number) base =
+    if is_character (item_among nodes number) then place_among 1 nodes number base else before_item nodes (suc number) base
+
+-- the rest of the caret's position behind an index, if it leads there
+abbrev pub below_index : ℕ → Option (List ℕ) → Option (List ℕ)
+below_index index None = None
+below_index index (Some []) = None
+below_index index (Some (first ∷ rest)) = if first == index then Some rest else None
+
+-- whether nothing is left of the caret's position
+abbrev pub is_here : Option (List ℕ) → Bool
+is_here None = false
+is_here (Some []) = true
+is_here (Some (index ∷ rest)) = false
+
+-- the caret's place among these nodes
+abbrev pub caret_among : List ℕ → List ViewNode → ℕ → List ℕ
+caret_among [] nodes base = []
+caret_among (index ∷ rest) nodes base = if nat_le index (length nodes) then (base + index) ∷ rest else []
+
+-- where a boundary is seen, from the rest of the caret's position and the caret's place
+abbrev pub seen_at : Option (List ℕ) → List ℕ → ℕ → List ViewNode → ℕ → List ℕ
+seen_at caret place base nodes offset = if is_here (below_index offset caret) then caret_among place nodes base else seen_among (nodes_of nodes) offset base
+
+-- the nodes in the slot to which this way leads: None where it leads nowhere
+abbrev pub inside : List ℕ → ℕ → List ViewNode → Option (List ViewNode)
+inside [] behind nodes = None
+inside (base ∷ []) behind nodes = Some (content_of base behind nodes)
+inside (step ∷ next ∷ way) behind nodes =
+    option_and_then (λ node. option_and_then (λ children. inside (next ∷ way) behind children) (children_of node)) (slice_get nodes step)
+
+-- a way without its last index, and that index
+abbrev pub front_of : List ℕ → List ℕ
+front_of [] = []
+front_of (last ∷ []) = []
+front_of (step ∷ next ∷ way) = step ∷ front_of (next ∷ way)
+
+abbrev pub last_of : List ℕ → ℕ
+last_of [] = 0
+last_of (last ∷ []) = last
+last_of (step ∷ next ∷ way) = last_of (next ∷ way)
+
+abbrev pub slot_at : Slots → Option ViewNode → Option Slot
+slot_at slots node = option_and_then (λ node. option_and_then slots (node_number node)) node
+
+abbrev pub children_at : Option ViewNode → List ViewNode
+children_at node = option_map_or (λ children. children) (option_and_then children_of node) []
+
+-- in an element with a slot, in its content; else at the boundary before the element
+abbrev pub in_content : (ℕ → List ViewNode → List ℕ) → List ℕ → List ℕ → List ℕ → Option (List ViewNode) → List ℕ
+in_content further outside place way None = outside
+in_content further outside place way (Some inner) = place ++ (front_of way ++ further (last_of way) inner)
+
+abbrev pub in_item : (ℕ → List ViewNode → List ℕ) → List ℕ → List ℕ → List ViewNode → Option Slot → List ℕ
+in_item further outside place children None = outside
+in_item further outside place children (Some slot) = in_content further outside place slot.place (inside slot.place slot.behind children)
+
+-- where a position is seen among these nodes
+abbrev pub shown_at : Slots → Option (List ℕ) → List ℕ → ℕ → List ViewNode → List ℕ → List ℕ
+shown_at slots caret place base nodes [] = []
+shown_at slots caret place base nodes (offset ∷ []) = seen_at caret place base nodes offset
+shown_at slots caret place base nodes (index ∷ next ∷ rest) =
+    in_item (λ first inner. shown_at slots (below_index index caret) place first inner (next ∷ rest)) (seen_at caret place base nodes index)
+    (place_among 0 (nodes_of nodes) index base) (children_at (item_among (nodes_of nodes) index)) (slot_at slots (item_among (nodes_of nodes) index))
+
+-- the children of an attribute element: None for any other node
+abbrev pub around : ViewNode → Option (List ViewNode)
+around (text scalars) = None
+around (element head children) = by_around head.kind (Some (list_of children)) None
+
+-- the index of the node in which the item of a number stands, the item's number in there, and the node; the first of the nodes has this index
+abbrev pub holder : List ViewNode → ℕ → ℕ → Option (ℕ × (ℕ × ViewNode))
+holder [] number index = None
+holder (node ∷ nodes) number index =
+    if nat_lt number (model_length node) then Some (index, (number, node)) else holder nodes (number - model_length node) (index + 1)
