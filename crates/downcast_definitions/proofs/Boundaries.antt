@@ -12,19 +12,19 @@ use Rattle.downcast_definitions.proofs.Entries.{AllStand, items_in, contents_of,
 use Rattle.downcast_definitions.proofs.Marks.{mark-behind-nest, mark-before-nest, mark-between-nest}
 use Rattle.downcast_definitions.proofs.Means.{place-means}
 
-marked-get : (row : List Entry) (number : ℕ) (layers : List Layer) → number ≤ length row → slice_get (contents_of (marked row number layers).row) number ≡ Some caret
+pub marked-get : (row : List Entry) (number : ℕ) (layers : List Layer) → number ≤ length row → slice_get (contents_of (marked row number layers).row) number ≡ Some caret
 marked-get [] zero layers h = refl
 marked-get [] (suc number) layers h = absurd (omega (arith, h))
 marked-get (entry ∷ row) zero layers h = refl
 marked-get (entry ∷ row) (suc number) layers h = marked-get row number layers (omega (arith, h))
 
-marked-take : (row : List Entry) (number : ℕ) (layers : List Layer) → number ≤ length row → take number (contents_of (marked row number layers).row) ≡ take number (contents_of row)
+pub marked-take : (row : List Entry) (number : ℕ) (layers : List Layer) → number ≤ length row → take number (contents_of (marked row number layers).row) ≡ take number (contents_of row)
 marked-take [] zero layers h = refl
 marked-take [] (suc number) layers h = absurd (omega (arith, h))
 marked-take (entry ∷ row) zero layers h = refl
 marked-take (entry ∷ row) (suc number) layers h = ap (λ cs. entry.content ∷ cs) (marked-take row number layers (omega (arith, h)))
 
-marked-stand : (row : List Entry) (number : ℕ) (layers : List Layer) → AllStand (contents_of row) → AllStand (contents_of (marked row number layers).row)
+pub marked-stand : (row : List Entry) (number : ℕ) (layers : List Layer) → AllStand (contents_of row) → AllStand (contents_of (marked row number layers).row)
 marked-stand [] zero layers h = (refl, tt)
 marked-stand [] (suc number) layers h = (refl, tt)
 marked-stand (entry ∷ row) zero layers h = (refl, h)

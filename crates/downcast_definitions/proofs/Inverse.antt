@@ -18,7 +18,7 @@ use Rattle.downcast_definitions.specs.Shown.{HaveShapes, HasShapes, IsShownInsid
 use Rattle.downcast_definitions.proofs.Slots.{out-of-into, into-some, slot-inside}
 use Rattle.downcast_definitions.proofs.Items.{shape-outermost, shape-at, inners-at, boundary-seen, node-seen}
 
-same-items : (children : Items) → items_of (list_of children) ≡ children
+pub same-items : (children : Items) → items_of (list_of children) ≡ children
 same-items items.none = refl
 same-items (items.more of children) = ap (λ rest. items.more of rest) (same-items children)
 

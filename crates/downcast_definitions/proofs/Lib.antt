@@ -1,5 +1,6 @@
 pub mod Marks
 pub mod Entries
+pub mod Tests
 pub mod Means
 pub mod Boundaries
 pub mod Slots

@@ -10,6 +10,7 @@ use Rattle.view_definitions.specs.Row.{Content, leaf, item, character, caret, En
 use Rattle.downcast_definitions.specs.Place.{pieces_size, Passed, none_passed, node_more, character_more, behind_content, begins_with_text, Found, as_place, as_node, in_pieces}
 use Rattle.downcast_definitions.specs.Meant.{model_length, inner_length, Inners, in_text, in_item, by_kind, meant_in}
 use Rattle.downcast_definitions.proofs.Entries.{may_stand, AllStand, counted, items_in, contents, contents_of, contents-size, contents-row, stand-front, stand-rest, items-append, get-front, get-rest, take-rest, leaf-counts, item-counts, shown-counts}
+use Rattle.downcast_definitions.proofs.Tests.{is_below, not_below}
 
 -- How places behind a text of this length, the last of `count` nodes, are read: so many items stand before the text, and it goes on with the
 -- nodes that are still to come.
@@ -182,12 +183,6 @@ node-base inners reads offset (element head children) nodes count (Some len) ind
     h.reading count 1 (index ∷ rest) (omega arith)
     ∙ item-inside inners (h.before + length h.scalars) head.kind _ _ e
     ∙ ap (λ n. in_item inners n (index ∷ rest)) o
-
-is_below : (n m : ℕ) → nat_lt n m ≡ true → n < m
-is_below n m e = grind (arith, nat_tests)
-
-not_below : (n m : ℕ) → nat_lt n m ≡ false → m ≤ n
-not_below n m e = grind (arith, nat_tests)
 
 not_zero : (n : ℕ) → (suc n == 0) ≡ false
 not_zero n = grind (arith, nat_tests)

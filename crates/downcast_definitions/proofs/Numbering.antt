@@ -73,7 +73,7 @@ content-plain (item node) nodes = refl
 content-plain (character scalar) nodes = character-plain scalar nodes
 content-plain caret nodes = refl
 
-nodes-plain : (nodes : List ViewNode) → plain_nodes (nodes_of nodes) ≡ nodes_of (map plain_node nodes)
+pub nodes-plain : (nodes : List ViewNode) → plain_nodes (nodes_of nodes) ≡ nodes_of (map plain_node nodes)
 nodes-plain [] = refl
 nodes-plain (node ∷ nodes) = ap (λ rest. more (plain_node node) rest) (nodes-plain nodes)
 

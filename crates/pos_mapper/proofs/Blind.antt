@@ -8,11 +8,12 @@ use Rattle.view_definitions.specs.Row.{nest}
 use Rattle.downcast_definitions.specs.Scene.{Numbers, unnumbered, Scene}
 use Rattle.downcast_definitions.specs.Rows.{inner_row}
 use Rattle.downcast_definitions.specs.Meant.{length_by_kind, model_length, inner_length}
-use Rattle.downcast_definitions.proofs.Numbering.{nest-plain, inner-plain}
+use Rattle.downcast_definitions.proofs.Numbering.{nodes-plain, nest-plain, inner-plain}
+use Rattle.item_definitions.specs.Children.{parent_of, offset_of}
 use Rattle.pos_mapper.specs.Bindings.{Slot}
 use Rattle.pos_mapper.specs.Mapped.{uncounted_node, uncounted_nodes, uncounted}
 use Rattle.pos_mapper.specs.Reading.{Slots}
-use Rattle.pos_mapper.specs.Seeking.{by_around, place_in, place_among, item_in, item_among, gap_in, gap_among, is_character, before_item, seen_among, below_index, is_here, caret_among, seen_at, inside, front_of, last_of, slot_at, children_at, in_content, in_item, shown_at}
+use Rattle.pos_mapper.specs.Seeking.{by_around, place_in, place_among, item_in, item_among, gap_in, gap_among, is_character, before_item, seen_among, below_index, is_here, caret_among, seen_at, inside, slot_at, children_at, in_content, in_item, shown_at}
 use Rattle.pos_mapper.proofs.Uncounted.{node-length, list_of-uncounted, length-uncounted, get-uncounted, content-uncounted}
 
 mutual
@@ -90,10 +91,6 @@ pub seen-plain : (nodes : ViewNodes) (number base : ℕ) → seen_among (plain_n
 seen-plain nodes zero base = before-plain nodes zero base
 seen-plain nodes (suc number) base =
     λ i. if character-plain nodes number i then place-plain 1 nodes number base i else before-plain nodes (suc number) base i
-
-nodes-plain : (nodes : List ViewNode) → plain_nodes (nodes_of nodes) ≡ nodes_of (content nodes)
-nodes-plain [] = refl
-nodes-plain (node ∷ nodes) = ap (λ rest. more (plain_node node) rest) (nodes-plain nodes)
 
 pub seen-content : (list : List ViewNode) (number base : ℕ) → seen_among (nodes_of (content list)) number base ≡ seen_among (nodes_of list) number base
 seen-content list number base = ap (λ nodes. seen_among nodes number base) (sym (nodes-plain list)) ∙ seen-plain (nodes_of list) number base
@@ -195,7 +192,7 @@ inside-uncounted (step ∷ next ∷ way) behind nodes =
 module _ (further : ℕ → List ViewNode → List ℕ) (blind : (first : ℕ) (nodes : List ViewNode) → further first (uncounted nodes) ≡ further first nodes) (outside place : List ℕ) where
   content-blind : (way : List ℕ) (inner : Option (List ViewNode)) → in_content further outside place way (option_map uncounted inner) ≡ in_content further outside place way inner
   content-blind way None = refl
-  content-blind way (Some inner) = ap (λ rest. place ++ (front_of way ++ rest)) (blind (last_of way) inner)
+  content-blind way (Some inner) = ap (λ rest. place ++ (parent_of way ++ rest)) (blind (offset_of way) inner)
 
   item-blind : (children : List ViewNode) (slot : Option Slot) → in_item further outside place (uncounted children) slot ≡ in_item further outside place children slot
   item-blind children None = refl

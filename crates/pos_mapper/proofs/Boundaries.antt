@@ -8,7 +8,7 @@ use Rattle.downcast_definitions.specs.Place.{as_place}
 use Rattle.downcast_definitions.specs.Seen.{common, layers_at, layers_before, character_before, character_layers_at, marked, place_of}
 use Rattle.downcast_definitions.proofs.Entries.{AllStand, items_in, contents_of, contents-row}
 use Rattle.downcast_definitions.proofs.Marks.{mark-behind-nest, mark-before-nest, mark-between-nest}
-use Rattle.downcast_definitions.proofs.Boundaries.{marked-means}
+use Rattle.downcast_definitions.proofs.Boundaries.{marked-get, marked-take, marked-stand, marked-means}
 use Rattle.pos_mapper.specs.Seeking.{item_among, is_character, place_among, before_item, gap_among, seen_among}
 use Rattle.pos_mapper.proofs.PlaceKinds.{kind_of}
 use Rattle.pos_mapper.proofs.Marked.{text_behind, row-behind, row-before}
@@ -17,24 +17,6 @@ use Rattle.pos_mapper.proofs.SeenTexts.{seen-behind, seen-before, marked-kind}
 use Rattle.pos_mapper.proofs.Apart.{NodeBefore, mark-apart}
 use Rattle.pos_mapper.proofs.Gaps.{mark-gap}
 use Rattle.pos_mapper.proofs.Fits.{Between, row-fits, row-clear}
-
-marked-get : (row : List Entry) (number : ℕ) (layers : List Layer) → number ≤ length row → slice_get (contents_of (marked row number layers).row) number ≡ Some caret
-marked-get [] zero layers h = refl
-marked-get [] (suc number) layers h = absurd (omega (arith, h))
-marked-get (entry ∷ row) zero layers h = refl
-marked-get (entry ∷ row) (suc number) layers h = marked-get row number layers (omega (arith, h))
-
-marked-take : (row : List Entry) (number : ℕ) (layers : List Layer) → number ≤ length row → take number (contents_of (marked row number layers).row) ≡ take number (contents_of row)
-marked-take [] zero layers h = refl
-marked-take [] (suc number) layers h = absurd (omega (arith, h))
-marked-take (entry ∷ row) zero layers h = refl
-marked-take (entry ∷ row) (suc number) layers h = ap (λ cs. entry.content ∷ cs) (marked-take row number layers (omega (arith, h)))
-
-marked-stand : (row : List Entry) (number : ℕ) (layers : List Layer) → AllStand (contents_of row) → AllStand (contents_of (marked row number layers).row)
-marked-stand [] zero layers h = (refl, tt)
-marked-stand [] (suc number) layers h = (refl, tt)
-marked-stand (entry ∷ row) zero layers h = (refl, h)
-marked-stand (entry ∷ row) (suc number) layers h = (h.0, marked-stand row number layers h.1)
 
 -- behind a character
 pub shown-behind : (row : List Entry) (start items : ℕ) (layers : List Layer) → AllStand (contents_of row) → start ≤ length row → items_in (take start (contents_of row)) ≡ items

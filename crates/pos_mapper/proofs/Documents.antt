@@ -27,6 +27,7 @@ use Rattle.downcast_definitions.specs.Rows.{elements_in, entry_of, inner_row, sh
 use Rattle.downcast_definitions.specs.Meant.{Inners, out_of_slot, meant_in, meant_in_element, inners_of, meant}
 use Rattle.pos_mapper.specs.Bindings.{Slot, Binding, Mapper, bound_id, bound_number, numbers_of}
 use Rattle.downcast_definitions.specs.Shown.{HasShape, HaveShapes}
+use Rattle.downcast_definitions.proofs.Tests.{first_true, second_true, below}
 use Rattle.pos_mapper.specs.Mapped.{slot_of, behind_slot, IsBound, AreBound, IsMapped, Means}
 use Rattle.pos_mapper.specs.Reading.{Slots, slots_in, in_slot, read, reads}
 use Rattle.pos_mapper.proofs.Uncounted.{read-uncounted}
@@ -116,19 +117,8 @@ module _ (slots : Slots) (inners : Inners) (depth : ℕ) where
 
 -- ---- shapes
 
-first_true : (a b : Bool) → (a && b) ≡ true → a ≡ true
-first_true true b e = refl
-first_true false b e = cc
-
-second_true : (a b : Bool) → (a && b) ≡ true → b ≡ true
-second_true true b e = e
-second_true false b e = cc
-
 is_within : (x y : ℕ) → nat_le x y ≡ true → x ≤ y
 is_within x y t = grind (arith, nat_tests)
-
-is_below : (x y : ℕ) → x < y → nat_lt x y ≡ true
-is_below x y t = grind (arith, nat_tests)
 
 pub one_slot : (form : Form ViewAttributes) → is_shape form ≡ true → slot_count form ≤ 1
 one_slot form e =
@@ -171,7 +161,7 @@ read-shape slots depth offset made number row means d e h path last = go made.fo
     go (text scalars) e (Some way) f = cc
     go (element kind name attributes children) e (Some way) f =
         ap (λ t. if t then option_map (λ position. offset ∷ position) (read slots (depth + 1) way (behind_slot (element kind name attributes children)) 0 (list_of (nodes_of (filled_inner (nest row) children))) path last) else None)
-        (is_below depth 64 d)
+        (below depth 64 d)
         ∙ ap (option_map (λ position. offset ∷ position))
         (ap (λ list. read slots (depth + 1) way (behind_slot (element kind name attributes children)) 0 list path last) (list_of-nodes_of (filled_inner (nest row) children))
         ∙ filled.among slots (depth + 1) (nest row) means h children [] 0 way refl f (one_slot (element kind name attributes children) e) path last)

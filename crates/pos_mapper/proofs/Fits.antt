@@ -10,23 +10,10 @@ use Rattle.downcast_definitions.specs.Place.{pieces_size, begins_with_text}
 use Rattle.downcast_definitions.specs.Seen.{common, layers_at, layers_before, marked}
 use Rattle.downcast_definitions.proofs.Entries.{counted, items_in, contents, contents-put}
 use Rattle.downcast_definitions.proofs.Marks.{within_layer, behind_layer, put-cons}
+use Rattle.downcast_definitions.proofs.Tests.{is_below, below, first_true, second_true}
 use Rattle.pos_mapper.proofs.Marked.{text_behind, size-put, two-in-one, skipped, moved, later_below, first_below, behind-put}
 use Rattle.pos_mapper.proofs.Apart.{IsNode}
 use Rattle.pos_mapper.proofs.Gaps.{starts_item, open_behind, before, fits}
-
-is_below : (n m : ℕ) → nat_lt n m ≡ true → n < m
-is_below n m e = grind (arith, nat_tests)
-
-below : (n m : ℕ) → n < m → nat_lt n m ≡ true
-below n m e = grind (arith, nat_tests)
-
-first_true : (a b : Bool) → (a && b) ≡ true → a ≡ true
-first_true true b e = refl
-first_true false b e = cc
-
-second_true : (a b : Bool) → (a && b) ≡ true → b ≡ true
-second_true true b e = e
-second_true false b e = cc
 
 both : (a b : Bool) → a ≡ true → b ≡ true → (a && b) ≡ true
 both true b e f = f

@@ -6,6 +6,7 @@ use Rattle.view_definitions.specs.Node.{Kind, container, attribute, empty, ui, H
 use Rattle.view_definitions.specs.Row.{Content, leaf, item, character, caret, Entry, Piece, Pieces, nothing, first, bare, wrapped, pieces_of, character_before, content_before, shown, nest, is_leaf_kind, is_item_kind}
 use Rattle.downcast_definitions.specs.Meant.{length_by_kind, model_length, inner_length}
 use Rattle.downcast_definitions.proofs.Entries.{may_stand, AllStand, contents, piece_contents, contents_of, contents-row, stand-front, stand-rest, get-front, get-rest}
+use Rattle.downcast_definitions.proofs.Tests.{is_below, not_below}
 use Rattle.pos_mapper.specs.Seeking.{by_around, item_in, item_among}
 
 -- an item: an element's node, or None for a character
@@ -118,12 +119,6 @@ IsItem (Some (text scalars)) (Some None) = Unit {0}
 IsItem (Some (text scalars)) (Some (Some node)) = ⊥
 IsItem (Some (element head children)) (Some None) = ⊥
 IsItem (Some (element head children)) (Some (Some node)) = element head children ≡ node
-
-is_below : (x y : ℕ) → nat_lt x y ≡ true → x < y
-is_below x y h = grind (arith, nat_tests)
-
-not_below : (x y : ℕ) → nat_lt x y ≡ false → y ≤ x
-not_below x y h = grind (arith, nat_tests)
 
 get-character : (scalars : List ℕ) (number : ℕ) → number < length scalars → slice_get (characters scalars) number ≡ Some None
 get-character [] number h = absurd (omega (arith, h))

@@ -9,6 +9,7 @@ use Rattle.view_definitions.specs.Row.{Content, leaf, item, character, caret, Pi
 use Rattle.downcast_definitions.specs.Place.{pieces_size, Passed, none_passed, behind_content, begins_with_text, as_place, in_pieces}
 use Rattle.downcast_definitions.specs.Meant.{model_length, inner_length}
 use Rattle.downcast_definitions.proofs.Entries.{may_stand, AllStand, counted, items_in, contents, contents-size, stand-front, stand-rest, items-append, get-front, get-rest, take-rest, leaf-counts, item-counts, shown-counts}
+use Rattle.downcast_definitions.proofs.Tests.{is_below, below, not_below, above, first_true, second_true}
 use Rattle.pos_mapper.specs.Seeking.{gap_in, gap_among}
 use Rattle.pos_mapper.proofs.Marked.{after, text_before, text_behind}
 
@@ -37,26 +38,6 @@ fits (first (bare content) pieces) (suc number) = fits pieces number
 fits (first (wrapped layer inner) pieces) number =
     if nat_lt number (pieces_size inner) then fits inner number && (nat_lt 0 (before inner number) && nat_lt (before inner number) (items_in (contents inner)))
     else fits pieces (number - pieces_size inner)
-
-pub is_below : (n m : ℕ) → nat_lt n m ≡ true → n < m
-is_below n m e = grind (arith, nat_tests)
-
-pub below : (n m : ℕ) → n < m → nat_lt n m ≡ true
-below n m e = grind (arith, nat_tests)
-
-pub not_below : (n m : ℕ) → nat_lt n m ≡ false → m ≤ n
-not_below n m e = grind (arith, nat_tests)
-
-pub above : (n m : ℕ) → m ≤ n → nat_lt n m ≡ false
-above n m e = grind (arith, nat_tests)
-
-first_true : (a b : Bool) → (a && b) ≡ true → a ≡ true
-first_true true b e = refl
-first_true false b e = cc
-
-second_true : (a b : Bool) → (a && b) ≡ true → b ≡ true
-second_true true b e = e
-second_true false b e = cc
 
 -- ---- what nodes do
 

@@ -4,7 +4,8 @@ use Rattle.std.specs.Prelude.{nat_lt, if◌then◌else◌}
 use Rattle.view_definitions.specs.Node.{Kind, container, attribute, empty, ui, ViewNode, ViewNodes, text, element, list_of, nodes_of, node_depth, depth_of}
 use Rattle.view_tree.specs.Changes.{node_text}
 use Rattle.downcast_definitions.specs.Meant.{model_length}
-use Rattle.pos_mapper.specs.Seeking.{by_around, place_in, place_among, item_in, item_among, gap_in, gap_among, around, holder, is_character, before_item, seen_among, front_of, last_of}
+use Rattle.item_definitions.specs.Children.{parent_of, offset_of}
+use Rattle.pos_mapper.specs.Seeking.{by_around, place_in, place_among, item_in, item_among, gap_in, gap_among, around, holder, is_character, before_item, seen_among}
 use Rattle.pos_mapper.proofs.Nodes.{nodes_of-list_of, list_depth}
 
 abbrev Found : Type 0
@@ -215,18 +216,18 @@ seen_before nodes (suc number) base e h =
     ap (λ b. if b then place_among 1 nodes number base else before_item nodes (suc number) base) (ap (λ n. is_character (item_among nodes n)) (sym same) ∙ h)
 
 -- a way is its front and its last index
-pub front_is : (way front : List ℕ) (last : ℕ) → way ≡ front ++ last ∷ [] → front_of way ≡ front
-front_is way front last e = ap front_of e ∙ go front
+pub front_is : (way front : List ℕ) (last : ℕ) → way ≡ front ++ last ∷ [] → parent_of way ≡ front
+front_is way front last e = ap parent_of e ∙ go front
   where
-    go : (front : List ℕ) → front_of (front ++ last ∷ []) ≡ front
+    go : (front : List ℕ) → parent_of (front ++ last ∷ []) ≡ front
     go [] = refl
     go (first ∷ []) = refl
     go (first ∷ next ∷ rest) = ap (λ list. first ∷ list) (go (next ∷ rest))
 
-pub last_is : (way front : List ℕ) (last : ℕ) → way ≡ front ++ last ∷ [] → last_of way ≡ last
-last_is way front last e = ap last_of e ∙ go front
+pub last_is : (way front : List ℕ) (last : ℕ) → way ≡ front ++ last ∷ [] → offset_of way ≡ last
+last_is way front last e = ap offset_of e ∙ go front
   where
-    go : (front : List ℕ) → last_of (front ++ last ∷ []) ≡ last
+    go : (front : List ℕ) → offset_of (front ++ last ∷ []) ≡ last
     go [] = refl
     go (first ∷ []) = refl
     go (first ∷ next ∷ rest) = go (next ∷ rest)

@@ -13,9 +13,10 @@ use Rattle.converter_definitions.specs.Views.{head_of, filled, filled_inner}
 use Rattle.converter_definitions.specs.Gives.{Converted}
 use Rattle.downcast_definitions.specs.Rows.{element_node}
 use Rattle.downcast_definitions.specs.Seen.{into_slot}
+use Rattle.item_definitions.specs.Children.{parent_of, offset_of}
 use Rattle.pos_mapper.specs.Mapped.{by_slot, behind_slot, behind_among}
 use Rattle.pos_mapper.specs.Reading.{Slots}
-use Rattle.pos_mapper.specs.Seeking.{inside, front_of, last_of, slot_at, children_at}
+use Rattle.pos_mapper.specs.Seeking.{inside, slot_at, children_at}
 use Rattle.pos_mapper.proofs.Filled.{get-behind, content-between, one-node, all-nodes, none-in, never}
 use Rattle.pos_mapper.proofs.Documents.{one_slot}
 use Rattle.pos_mapper.proofs.Shifted.{shift, NotEmpty}
@@ -98,7 +99,7 @@ way-there (element kind name attributes children) [] f e = absurd (never 0 child
 way-there (element kind name attributes children) (index ∷ way) f e = tt
 
 -- a place in the content of a slot, at the end of the way there
-pub way-into : (way inner : List ℕ) → NotEmpty way → NotEmpty inner → front_of way ++ shift (last_of way) inner ≡ into_slot way inner
+pub way-into : (way inner : List ℕ) → NotEmpty way → NotEmpty inner → parent_of way ++ shift (offset_of way) inner ≡ into_slot way inner
 way-into [] inner h k = absurd h
 way-into (base ∷ []) [] h k = absurd k
 way-into (base ∷ []) (index ∷ inner) h k = refl

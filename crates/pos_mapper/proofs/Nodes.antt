@@ -2,9 +2,9 @@
 use Rattle.std.proofs.Common.{◌≡◌, ℕ, zero, suc, ◌+◌, ◌-◌, ◌^◌, ◌<◌, ◌≤◌, min, max, List, [], ◌∷◌, length, drop, Option, Some, None, option_map, option_and_then, append_assoc, ◌++◌, refl, sym, ap, ◌∙◌, get_or, arith}
 use Rattle.std.proofs.lemmas.Bool.Decides.{nat_tests}
 use Rattle.view_definitions.specs.Node.{Kind, ViewNode, ViewNodes, text, element, none, more, list_of, nodes_of, children_of, node_depth, inner_depth, depth_of}
-use Rattle.view_tree.specs.Changes.{node_text}
+use Rattle.view_tree.specs.Changes.{node_text, number_of}
 use Rattle.downcast_definitions.specs.Meant.{length_by_kind, model_length, inner_length}
-use Rattle.pos_mapper.specs.Parts.{node_kind, node_number}
+use Rattle.pos_mapper.specs.Parts.{node_kind}
 use Rattle.downcast_definitions.specs.Meant.{by_kind}
 use Rattle.pos_mapper.specs.Reading.{Slots, Below, lengths, in_position, in_slot, in_node, in_text, read}
 
@@ -68,7 +68,7 @@ in_a_text slots below depth path last offset (element head children) scalars e =
 
 -- a place in an element, by its kind, its number and its children
 pub in_element : (slots : Slots) (below : Below) (depth : ℕ) (path : List ℕ) (last offset : ℕ) (node : ViewNode) (kind : Kind) (number : Option ℕ) (children : List ViewNode)
-    → Some kind ≡ node_kind node → number ≡ node_number node → Some children ≡ children_of node
+    → Some kind ≡ node_kind node → number ≡ number_of node → Some children ≡ children_of node
     → in_node slots below depth path last offset node ≡ by_kind kind (below depth [] 0 offset children) (in_slot below depth offset children (option_and_then slots number))
 in_element slots below depth path last offset (text own) kind number children k n c = cc
 in_element slots below depth path last offset (element head kids) kind number children k n c =

@@ -8,6 +8,7 @@ use Rattle.view_definitions.specs.Row.{Content, leaf, item, character, caret, Pi
 use Rattle.downcast_definitions.specs.Place.{pieces_size, Passed, none_passed, character_more, behind_content, begins_with_text, as_place, in_pieces}
 use Rattle.downcast_definitions.proofs.Entries.{may_stand, AllStand, contents, contents-size, stand-front, stand-rest, get-front, get-rest}
 use Rattle.downcast_definitions.proofs.Means.{shown-starts, starts_text}
+use Rattle.downcast_definitions.proofs.Tests.{is_below, not_below}
 use Rattle.pos_mapper.specs.Seeking.{by_around}
 use Rattle.pos_mapper.proofs.Marked.{after, text_before, text_behind}
 
@@ -140,12 +141,6 @@ in_text-after (item node) count was = refl
 in_text-after (character scalar) count None = refl
 in_text-after (character scalar) count (Some len) = refl
 in_text-after caret count was = refl
-
-is_below : (n m : ℕ) → nat_lt n m ≡ true → n < m
-is_below n m e = grind (arith, nat_tests)
-
-not_below : (n m : ℕ) → nat_lt n m ≡ false → m ≤ n
-not_below n m e = grind (arith, nat_tests)
 
 not_zero : (n : ℕ) → (suc n == 0) ≡ false
 not_zero n = grind (arith, nat_tests)

@@ -14,8 +14,8 @@ use Rattle.downcast_definitions.specs.Seen.{elements_before}
 use Rattle.downcast_definitions.specs.Shown.{HaveShapes}
 use Rattle.downcast_definitions.proofs.Entries.{may_stand, AllStand, counted, items_in, contents, contents_of, contents-row, stand-front, stand-rest, leaf-counts, item-counts, shown-counts}
 use Rattle.downcast_definitions.proofs.Items.{boundary-quiet, row-stands}
+use Rattle.downcast_definitions.proofs.Tests.{is_below, below, not_below, above}
 use Rattle.pos_mapper.specs.Seeking.{by_around, item_in, item_among, is_character}
-use Rattle.pos_mapper.proofs.Gaps.{is_below, below, not_below, above}
 
 -- the entry that is the item of this number, leaves and carets apart
 abbrev pub nth_item : List Content → ℕ → Option Content

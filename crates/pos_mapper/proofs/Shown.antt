@@ -19,11 +19,13 @@ use Rattle.downcast_definitions.specs.Seen.{elements_before, boundary_place, nod
 use Rattle.downcast_definitions.specs.Shown.{HasShape, HaveShapes}
 use Rattle.downcast_definitions.proofs.Items.{shape-at, shape-outermost, boundary-seen}
 use Rattle.downcast_definitions.proofs.Numbering.{numbered, boundary-place-plain}
+use Rattle.item_definitions.specs.Children.{parent_of, offset_of}
+use Rattle.downcast_definitions.proofs.Inverse.{same-items}
 use Rattle.pos_mapper.specs.Bindings.{CaretPlace, Mapper, numbers_of}
 use Rattle.pos_mapper.specs.Mapped.{behind_slot, slot_of, IsBound, AreBound, IsMapped, Shows}
 use Rattle.pos_mapper.specs.Reading.{Slots, slots_in}
 use Rattle.pos_mapper.specs.Seeking as seeking
-use Rattle.pos_mapper.specs.Seeking.{below_index, is_here, caret_among, seen_among, seen_at, place_among, item_among, inside, front_of, last_of, slot_at, in_content, in_item, shown_at}
+use Rattle.pos_mapper.specs.Seeking.{below_index, is_here, caret_among, seen_among, seen_at, place_among, item_among, inside, slot_at, in_content, in_item, shown_at}
 use Rattle.pos_mapper.proofs.Documents.{bound-slot}
 use Rattle.pos_mapper.proofs.Unique.{node-found}
 use Rattle.pos_mapper.proofs.Shifted.{shift, NotEmpty, seen-shifted, place-shifted, shift-front, shift-none, boundary-some, node-some}
@@ -32,10 +34,6 @@ use Rattle.pos_mapper.proofs.Inside.{inside-shape, children-are-inner, slot-of-n
 use Rattle.pos_mapper.proofs.Seen.{boundary-shown}
 use Rattle.pos_mapper.proofs.RowItems.{item-element}
 use Rattle.pos_mapper.proofs.Carets.{CaretBelow, caret-inside, here-is, here-some, caret-fits}
-
-same-items : (children : Items) → items_of (list_of children) ≡ children
-same-items items.none = refl
-same-items (items.more of children) = ap (λ rest. items.more of rest) (same-items children)
 
 front-some : (front back : List ℕ) → NotEmpty front → NotEmpty (front ++ back)
 front-some [] back h = absurd h
@@ -97,11 +95,11 @@ module _ (mapper : Mapper) (conversion : Conversion) (markers : Markers) (there 
       (in_slot (boundary_place scene parent path list index) (node_place scene parent path list index) inner slot)
   in-shape parent path list caret place base index id made row further outside inner s shaped found n o ih None e = (o, boundary-some scene parent path list index)
   in-shape parent path list caret place base index id made row further outside inner s shaped found n o ih (Some way) e =
-      let content = ih (last_of way) in
+      let content = ih (offset_of way) in
       let some : NotEmpty (node_place scene parent path list index) = node-some scene parent path list index in (
         ap (in_content further outside found way)
             (ap (inside way (behind_slot made.form)) (children-are-inner (element_node (numbers_of mapper id) made row)) ∙ inside-shape made (numbers_of mapper id) row way shaped e)
-            ∙ (λ i. n i ++ (front_of way ++ content.0 i))
+            ∙ (λ i. n i ++ (parent_of way ++ content.0 i))
             ∙ ap (λ p. shift base (node_place scene parent path list index) ++ p) (way-into way inner (way-there made.form way e (shape-outermost made.form shaped)) content.1)
             ∙ shift-front base (node_place scene parent path list index) (into_slot way inner) some,
         front-some (node_place scene parent path list index) (into_slot way inner) some,

@@ -6,6 +6,7 @@ use Rattle.view_definitions.specs.Node.{Kind, container, attribute, empty, ui, H
 use Rattle.view_definitions.specs.Row.{Content, leaf, item, character, caret, Entry, Piece, Pieces, nothing, first, bare, wrapped, pieces_of, character_before, content_before, shown, nest, is_leaf_kind, is_item_kind}
 use Rattle.downcast_definitions.specs.Meant.{length_by_kind, model_length, inner_length, Inners, in_text, in_item, by_kind, meant_in, meant_in_node}
 use Rattle.downcast_definitions.proofs.Entries.{may_stand, AllStand, contents, contents_of, contents-row, stand-front, stand-rest, piece_contents}
+use Rattle.downcast_definitions.proofs.Tests.{below, above}
 use Rattle.pos_mapper.specs.Seeking.{by_around, place_in, place_among, item_in, item_among, is_character}
 use Rattle.pos_mapper.proofs.PlaceKinds.{kind_in, kind_at}
 
@@ -71,12 +72,6 @@ full-nest row s = full-shown (pieces_of row) (subst AllStand (sym (contents-row 
 
 -- ---- the character at a place in a text
 
-is_below : (x y : ℕ) → x < y → nat_lt x y ≡ true
-is_below x y h = grind (arith, nat_tests)
-
-not_below : (x y : ℕ) → y ≤ x → nat_lt x y ≡ false
-not_below x y h = grind (arith, nat_tests)
-
 is_within : (x y : ℕ) → nat_le x y ≡ true → x ≤ y
 is_within x y h = grind (arith, nat_tests)
 
@@ -107,9 +102,9 @@ module _ (inners : Inners) where
     is = e;
     below = omega (arith, b);
     place =
-        ap (λ t. if t then base ∷ place_in (further_of behind) node number else place_among (further_of behind) nodes (number - model_length node) (base + 1)) (is_below number (model_length node) b)
+        ap (λ t. if t then base ∷ place_in (further_of behind) node number else place_among (further_of behind) nodes (number - model_length node) (base + 1)) (below number (model_length node) b)
         ∙ (let z : base ≡ base + 0 = omega arith in λ i. z i ∷ p i);
-    one = ap (λ t. is_character (if t then item_in node number else item_among nodes (number - model_length node))) (is_below number (model_length node) b) ∙ c;
+    one = ap (λ t. is_character (if t then item_in node number else item_among nodes (number - model_length node))) (below number (model_length node) b) ∙ c;
   }
 
   text-behind : (scalars : List ℕ) (nodes : ViewNodes) (offset base last meant : ℕ) (behind : Bool) → HasScalars scalars → nat_lt 0 last ≡ behind → (inside : Bool) → nat_le last (length scalars) ≡ inside
@@ -173,7 +168,7 @@ module _ (inners : Inners) where
         let below = p.below in
         let less : model_length node + p.number - model_length node ≡ p.number = omega arith in
         let far : base + 1 + index ≡ base + suc index = omega arith in
-        let past : nat_lt (model_length node + p.number) (model_length node) ≡ false = not_below (model_length node + p.number) (model_length node) (omega arith) in
+        let past : nat_lt (model_length node + p.number) (model_length node) ≡ false = above (model_length node + p.number) (model_length node) (omega arith) in
         record {
           number = model_length node + p.number;
           is = is ∙ omega arith;

@@ -14,13 +14,8 @@ use Rattle.downcast_definitions.specs.Rows.{row_of}
 use Rattle.downcast_definitions.specs.Seen.{node_place}
 use Rattle.downcast_definitions.specs.Shown.{HaveShapes}
 use Rattle.downcast_definitions.proofs.Items.{node-seen}
+use Rattle.downcast_definitions.proofs.Tests.{below, above}
 use Rattle.pos_mapper.specs.Seeking.{by_around, place_in, place_among}
-
-is_below : (x y : ℕ) → x < y → nat_lt x y ≡ true
-is_below x y h = grind (arith, nat_tests)
-
-not_below : (x y : ℕ) → y ≤ x → nat_lt x y ≡ false
-not_below x y h = grind (arith, nat_tests)
 
 -- places in items mean themselves
 abbrev pub Open : Inners → Type 0
@@ -61,7 +56,7 @@ module _ (inners : Inners) (open_items : Open inners) where
     is = e;
     below = omega (arith, b);
     place =
-        ap (λ t. (if t then base ∷ place_in 0 node number else place_among 0 nodes (number - model_length node) (base + 1)) ++ (next ∷ further)) (is_below number (model_length node) b)
+        ap (λ t. (if t then base ∷ place_in 0 node number else place_among 0 nodes (number - model_length node) (base + 1)) ++ (next ∷ further)) (below number (model_length node) b)
         ∙ (let z : base ≡ base + 0 = omega arith in λ i. z i ∷ p i);
   }
 
@@ -113,7 +108,7 @@ module _ (inners : Inners) (open_items : Open inners) where
               let less : model_length node + p.number - model_length node ≡ p.number = omega arith in
               let far : base + 1 + index ≡ base + suc index = omega arith in
               ap (λ t. (if t then base ∷ place_in 0 node (model_length node + p.number) else place_among 0 nodes (model_length node + p.number - model_length node) (base + 1)) ++ (next ∷ further))
-              (not_below (model_length node + p.number) (model_length node) (omega arith))
+              (above (model_length node + p.number) (model_length node) (omega arith))
               ∙ ap (λ n. place_among 0 nodes n (base + 1) ++ (next ∷ further)) less
               ∙ p.place
               ∙ ap (λ n. n ∷ rest) far;

@@ -3,8 +3,9 @@ use Rattle.std.specs.Prelude.{ℕ, ◌+◌, ◌-◌, zero, suc, nat_lt, nat_le, 
 use Rattle.std.specs.Option.{option_map_or}
 use Rattle.view_definitions.specs.Node.{Kind, container, attribute, empty, ui, ViewNode, ViewNodes, text, element, none, more, list_of, nodes_of, children_of}
 use Rattle.downcast_definitions.specs.Meant.{model_length}
+use Rattle.item_definitions.specs.Children.{parent_of, offset_of}
+use Rattle.view_tree.specs.Changes.{number_of}
 use Rattle.pos_mapper.specs.Bindings.{Slot}
-use Rattle.pos_mapper.specs.Parts.{node_number}
 use Rattle.pos_mapper.specs.Reading.{Slots, content_of}
 
 -- in an attribute element, or elsewhere
@@ -95,19 +96,8 @@ inside (base ∷ []) behind nodes = Some (content_of base behind nodes)
 inside (step ∷ next ∷ way) behind nodes =
     option_and_then (λ node. option_and_then (λ children. inside (next ∷ way) behind children) (children_of node)) (slice_get nodes step)
 
--- a way without its last index, and that index
-abbrev pub front_of : List ℕ → List ℕ
-front_of [] = []
-front_of (last ∷ []) = []
-front_of (step ∷ next ∷ way) = step ∷ front_of (next ∷ way)
-
-abbrev pub last_of : List ℕ → ℕ
-last_of [] = 0
-last_of (last ∷ []) = last
-last_of (step ∷ next ∷ way) = last_of (next ∷ way)
-
 abbrev pub slot_at : Slots → Option ViewNode → Option Slot
-slot_at slots node = option_and_then (λ node. option_and_then slots (node_number node)) node
+slot_at slots node = option_and_then (λ node. option_and_then slots (number_of node)) node
 
 abbrev pub children_at : Option ViewNode → List ViewNode
 children_at node = option_map_or (λ children. children) (option_and_then children_of node) []
@@ -115,7 +105,7 @@ children_at node = option_map_or (λ children. children) (option_and_then childr
 -- in an element with a slot, in its content; else at the boundary before the element
 abbrev pub in_content : (ℕ → List ViewNode → List ℕ) → List ℕ → List ℕ → List ℕ → Option (List ViewNode) → List ℕ
 in_content further outside place way None = outside
-in_content further outside place way (Some inner) = place ++ (front_of way ++ further (last_of way) inner)
+in_content further outside place way (Some inner) = place ++ (parent_of way ++ further (offset_of way) inner)
 
 abbrev pub in_item : (ℕ → List ViewNode → List ℕ) → List ℕ → List ℕ → List ViewNode → Option Slot → List ℕ
 in_item further outside place children None = outside

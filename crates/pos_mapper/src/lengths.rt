@@ -2,11 +2,11 @@
 ghost use Rattle.std.specs.Prelude.{◌≡◌, ◌+◌, ◌-◌, ◌^◌, ◌≤◌, min, length, option_map, option_copied};
 ghost use Rattle.view_tree.specs.Kinds.{kind_of};
 ghost use Rattle.downcast_definitions.specs.Meant.{length_by_kind, model_length};
-ghost use Rattle.pos_mapper.specs.Parts.{node_kind, node_number};
+ghost use Rattle.pos_mapper.specs.Parts.{node_kind};
 ghost use Rattle.pos_mapper.specs.Reading.{lengths, in_position, before_node};
 
 use view_tree::kind::ElementKind;
-use view_tree::node::{Detached, NodeRef, ViewNumber};
+use view_tree::node::{Detached, NodeRef};
 
 /// The kind of an element: None for a text.
 pub fn kind_of(node: &Detached) -> Option<&ElementKind>
@@ -15,16 +15,6 @@ pub fn kind_of(node: &Detached) -> Option<&ElementKind>
     match node.node() {
         NodeRef::Text(_) => None,
         NodeRef::Element { kind, .. } => Some(kind),
-    }
-}
-
-/// The number of an element: None for a text, and where it has none.
-pub fn number_of(node: &Detached) -> Option<ViewNumber>
-    ensures { result ≡ node_number node.now }
-{
-    match node.node() {
-        NodeRef::Text(_) => None,
-        NodeRef::Element { number, .. } => number,
     }
 }
 

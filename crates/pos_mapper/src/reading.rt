@@ -4,7 +4,7 @@ ghost use Rattle.view_tree.specs.Kinds.{kind_of};
 ghost use Rattle.downcast_definitions.specs.Meant.{by_kind};
 ghost use Rattle.pos_mapper.specs.Reading.{slots_in, only_number, between_nodes, in_text, content_of, in_slot, in_node, in_nodes, read, reads, read_step};
 
-use crate::lengths::{before_node, kind_of, number_of, sum};
+use crate::lengths::{before_node, kind_of, sum};
 use crate::parts::Slot;
 use crate::table::Table;
 use ck_base::path::Path;
@@ -154,7 +154,7 @@ fn read_node(
         (Some(kind), Some(children)) => read_element(
             table,
             kind,
-            number_of(node),
+            node.number(),
             children.as_slice(),
             offset,
             path,

@@ -1,10 +1,11 @@
 //! Where nodes of the view show positions.
 ghost use Rattle.std.specs.Prelude.{◌≡◌, ◌<◌, ◌≤◌, ◌+◌, ◌^◌, ◌++◌, [], length, IfSome, OnOk, option_map, option_and_then, option_copied, slice_get};
+ghost use Rattle.item_definitions.specs.Children.{parent_of, offset_of};
 ghost use Rattle.view_definitions.specs.Node.{nodes_of, children_of};
 ghost use Rattle.pos_mapper.specs.Reading.{slots_in};
-ghost use Rattle.pos_mapper.specs.Seeking.{below_index, is_here, caret_among, seen_at, inside, front_of, last_of, slot_at, children_at, in_item, shown_at, before_item, seen_among, holder, around, place_in, place_among, item_in, item_among, gap_in, gap_among, is_character};
+ghost use Rattle.pos_mapper.specs.Seeking.{below_index, is_here, caret_among, seen_at, inside, slot_at, children_at, in_item, shown_at, before_item, seen_among, holder, around, place_in, place_among, item_in, item_among, gap_in, gap_among, is_character};
 
-use crate::lengths::{kind_of, node_length, number_of};
+use crate::lengths::{kind_of, node_length};
 use crate::reading::{content_of, slot_of};
 use crate::table::Table;
 use ck_base::NoMemory;
@@ -284,7 +285,7 @@ fn push_seen_at(
 #[cycle(ways)]
 fn inside<'a>(nodes: &'a [Detached], way: &[u64], behind: u64) -> Option<&'a [Detached]>
     ensures nodes { option_copied result ≡ inside way.now behind nodes.now }
-    ensures small { IfSome result (λ nodes. last_of way.now + length nodes.now < 2 ^ 64) }
+    ensures small { IfSome result (λ nodes. offset_of way.now + length nodes.now < 2 ^ 64) }
 {
     match way.split_first() {
         None => None,
@@ -304,7 +305,7 @@ fn inside_step<'a>(
     behind: u64,
 ) -> Option<&'a [Detached]>
     ensures nodes { option_copied result ≡ option_and_then (λ node. option_and_then (λ children. inside way.now behind children) (children_of node)) (slice_get nodes.now step) }
-    ensures small { IfSome result (λ nodes. last_of way.now + length nodes.now < 2 ^ 64) }
+    ensures small { IfSome result (λ nodes. offset_of way.now + length nodes.now < 2 ^ 64) }
 {
     let Some(node) = nodes.get(step as usize) else {
         return None;
@@ -318,8 +319,8 @@ fn inside_step<'a>(
 /// A way without its last index, and that index.
 #[tactic(auto, using(crate::proofs::Held::front_is, crate::proofs::Held::last_is))]
 fn split_way(way: &[u64]) -> (&[u64], u64)
-    ensures front { result.0.now ≡ front_of way.now }
-    ensures last { result.1 ≡ last_of way.now }
+    ensures front { result.0.now ≡ parent_of way.now }
+    ensures last { result.1 ≡ offset_of way.now }
 {
     match way.split_last() {
         Some((last, front)) => (front, *last),
@@ -374,7 +375,7 @@ fn push_in_item(
     let Some(children) = node.children() else {
         return push_seen_at(nodes, base, index, caret, caret_place, place);
     };
-    let Some(slot) = slot_of(table, number_of(node)) else {
+    let Some(slot) = slot_of(table, node.number()) else {
         return push_seen_at(nodes, base, index, caret, caret_place, place);
     };
     let way = slot.place.as_slice();

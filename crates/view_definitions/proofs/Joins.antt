@@ -175,7 +175,8 @@ plain-put (layer ∷ layers) content (first (wrapped other inner) pieces) p h =
       | false ↦ (plain-put layers content nothing p tt, h)
     ]
 
-plain-pieces : (row : List Entry) → IsPlainRow row → PlainPieces (pieces_of row)
+-- a row without the caret has pieces without it
+pub plain-pieces : (row : List Entry) → IsPlainRow row → PlainPieces (pieces_of row)
 plain-pieces [] h = tt
 plain-pieces (entry ∷ row) h = plain-put entry.layers entry.content (pieces_of row) h.0 (plain-pieces row h.1)
 

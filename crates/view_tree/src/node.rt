@@ -6,7 +6,7 @@ ghost use Rattle.view_definitions.specs.Row.{is_element, is_leaf_kind};
 ghost use Rattle.view_tree.specs.Kinds.{kind_of, node_of};
 ghost use Rattle.view_tree.specs.NodeList.{NodeList};
 ghost use Rattle.view_tree.specs.Reading.{Shows};
-ghost use Rattle.view_tree.specs.Changes.{IsElement, node_layer, node_text, with_children, inner_of, numbered, inserted, removed};
+ghost use Rattle.view_tree.specs.Changes.{IsElement, number_of, node_layer, node_text, with_children, inner_of, numbered, inserted, removed};
 
 use crate::kind::{ElementKind, Layer, NodeKind};
 use crate::view::ViewFault;
@@ -270,6 +270,16 @@ impl Detached {
         match &self.node {
             Node::Text(_, _) => false,
             Node::Element(head, _) => head.is_layer(),
+        }
+    }
+
+    /// The number of an element that shows a model element: None where it has none, and for a text.
+    pub fn number(&self) -> Option<ViewNumber>
+        ensures { result ≡ number_of self.now }
+    {
+        match &self.node {
+            Node::Text(_, _) => None,
+            Node::Element(head, _) => head.number,
         }
     }
 
