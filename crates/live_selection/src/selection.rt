@@ -70,7 +70,8 @@ impl Selection {
         ensures backward { result ≡ self.now.backward }
         ensures collapsed { IsTrue (is_collapsed self.now.range) → result ≡ false }
     {
-        self.backward
+        let Selection { backward, .. } = self;
+        *backward
     }
 
     /// What overrides the attributes that the text gives it.
