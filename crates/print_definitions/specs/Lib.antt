@@ -3,3 +3,4 @@ pub mod Values
 pub mod ModelText
 pub mod ViewText
 pub mod Sample
+pub mod SelectionText

@@ -1,4 +1,5 @@
-pub mod Shown
+pub mod Converters
+pub mod Selecting
 pub mod Machine
 pub mod Task
 pub mod Output

@@ -5,11 +5,11 @@ use Rattle.config_read.specs.Texts.{settings_text}
 use Rattle.document_definitions.specs.Document.{State}
 use Rattle.machine_definitions.specs.Lines.{lines_of}
 use Rattle.machine_definitions.specs.Refusals.{refusal_text}
-use Rattle.schema_definitions.specs.Allowed.{Rules}
 use Rattle.settings_definitions.specs.Settings.{Settled, settings_of}
 use Rattle.settings_definitions.specs.declared.fault.SettingsFault.{SettingsFault}
 use Rattle.step_definitions.specs.Step.{opened}
-use Rattle.program_definitions.specs.Machine.{answers}
+use Rattle.program_definitions.specs.Converters.{Givings, names_of, conversion_of}
+use Rattle.program_definitions.specs.Machine.{Config, answers}
 use Rattle.program_definitions.specs.Task.{Task, run, check, settings_name, task_of}
 
 -- what the program writes, and its status
@@ -48,43 +48,44 @@ abbrev pub most_script_bytes : ℕ
 most_script_bytes = 67108864
 
 -- the answers to a script on an opened document: a script that isn't held gives 4, and one over its limit 6
-abbrev pub script_outcome : Rules → State → Option (List ℕ) → Outcome
-script_outcome rules state None = silent 4
-script_outcome rules state (Some script) = if nat_lt most_script_bytes (length script) then silent 6
-    else record { bytes = answers rules state 1 (lines_of script); status = 0 }
+abbrev pub script_outcome : Config → State → Option (List ℕ) → Outcome
+script_outcome config state None = silent 4
+script_outcome config state (Some script) = if nat_lt most_script_bytes (length script) then silent 6
+    else record { bytes = answers config state 1 (lines_of script); status = 0 }
 
 -- what is done with an opened document
-abbrev pub done_with : (List ℕ → Option (List ℕ)) → Task → Rules → State → Outcome
-done_with held (run settings script) rules state = script_outcome rules state (held script)
-done_with held (check settings) rules state = record { bytes = accepted_settings; status = 0 }
+abbrev pub done_with : (List ℕ → Option (List ℕ)) → Task → Config → State → Outcome
+done_with held (run settings script) config state = script_outcome config state (held script)
+done_with held (check settings) config state = record { bytes = accepted_settings; status = 0 }
 
 -- the document that settings start with, or why there is none
-abbrev pub started : (Rules → State → Outcome) → Rules → Result State Refusal → Outcome
-started next rules (Ok state) = next rules state
-started next rules (Err refusal) = refused (refused_start refusal)
+abbrev pub started : (Config → State → Outcome) → Config → Result State Refusal → Outcome
+started next config (Ok state) = next config state
+started next config (Err refusal) = refused (refused_start refusal)
+
+-- what settings say of a document's editing and showing, where these converters are handed in
+abbrev pub config_of : Givings → Settled → Config
+config_of givings settled = record { rules = settled.rules; conversion = conversion_of givings settled }
 
 -- the settings, or why there are none
-abbrev pub settled_outcome : (Rules → State → Outcome) → Result Settled SettingsFault → Outcome
-settled_outcome next (Ok settled) = started next settled.rules (opened settled.rules settled.start)
-settled_outcome next (Err fault) = refused (refused_settings fault)
-
--- the names of the products' converters that are handed in: none yet
-abbrev pub handed_in : List (List ℕ)
-handed_in = []
+abbrev pub settled_outcome : Givings → (Config → State → Outcome) → Result Settled SettingsFault → Outcome
+settled_outcome givings next (Ok settled) = started next (config_of givings settled) (opened settled.rules settled.start)
+settled_outcome givings next (Err fault) = refused (refused_settings fault)
 
 -- a settings file that isn't held gives 4, and one over its limit 6
-abbrev pub settings_outcome : (Rules → State → Outcome) → Option (List ℕ) → Outcome
-settings_outcome next None = silent 4
-settings_outcome next (Some bytes) = if nat_lt most_settings_bytes (length bytes) then silent 6 else settled_outcome next (settings_of handed_in bytes)
+abbrev pub settings_outcome : Givings → (Config → State → Outcome) → Option (List ℕ) → Outcome
+settings_outcome givings next None = silent 4
+settings_outcome givings next (Some bytes) =
+    if nat_lt most_settings_bytes (length bytes) then silent 6 else settled_outcome givings next (settings_of (names_of givings) bytes)
 
 -- a task with the files that are held so
-abbrev pub task_outcome : (List ℕ → Option (List ℕ)) → Task → Outcome
-task_outcome held task = settings_outcome (done_with held task) (held (settings_name task))
+abbrev pub task_outcome : Givings → (List ℕ → Option (List ℕ)) → Task → Outcome
+task_outcome givings held task = settings_outcome givings (done_with held task) (held (settings_name task))
 
-abbrev pub outcome_of : (List ℕ → Option (List ℕ)) → Option Task → Outcome
-outcome_of held None = record { bytes = usage; status = 2 }
-outcome_of held (Some task) = task_outcome held task
+abbrev pub outcome_of : Givings → (List ℕ → Option (List ℕ)) → Option Task → Outcome
+outcome_of givings held None = record { bytes = usage; status = 2 }
+outcome_of givings held (Some task) = task_outcome givings held task
 
--- the output of the program on these words, where files are held so
-abbrev pub output : List (List ℕ) → (List ℕ → Option (List ℕ)) → Outcome
-output words held = outcome_of held (task_of words)
+-- the output of the program on these words, where products' converters that give this are handed in and files are held so
+abbrev pub output : Givings → List (List ℕ) → (List ℕ → Option (List ℕ)) → Outcome
+output givings words held = outcome_of givings held (task_of words)

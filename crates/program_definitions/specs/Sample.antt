@@ -1,9 +1,12 @@
--- A document for the worked examples.
+-- A document for the worked examples, and what it is edited and shown by.
 use Rattle.std.specs.Prelude.{[], ◌∷◌, false, codes}
 use Rattle.item_definitions.specs.Item.{element, none}
 use Rattle.item_definitions.specs.Position.{between}
 use Rattle.document_definitions.specs.Selection.{selected}
 use Rattle.document_definitions.specs.Document.{State}
+use Rattle.schema_definitions.specs.Sample as schema
+use Rattle.converter_definitions.specs.Sample as converters
+use Rattle.program_definitions.specs.Machine.{Config}
 
 -- an empty paragraph with the selection in it
 abbrev pub one_paragraph : State
@@ -16,3 +19,6 @@ one_paragraph = record {
   };
   cells = [];
 }
+
+abbrev pub config : Config
+config = record { rules = schema.sample; conversion = converters.sample }

@@ -1,22 +1,9 @@
 //! The definitions computed at worked examples.
 ghost use Rattle.std.specs.Prelude.{◌≡◌, ◌∷◌, [], ◌++◌, Some, None, codes};
-ghost use Rattle.item_definitions.specs.Item.{character, element, items_of};
-ghost use Rattle.view_definitions.specs.Node.{text, none, nodes_of};
-ghost use Rattle.view_definitions.specs.Node as nodes;
-ghost use Rattle.schema_definitions.specs.Sample.{sample};
 ghost use Rattle.machine_definitions.specs.Lines.{lines_of};
 ghost use Rattle.program_definitions.specs.Machine.{answers};
-ghost use Rattle.program_definitions.specs.Sample.{one_paragraph};
-ghost use Rattle.program_definitions.specs.Shown.{shown, container_of};
+ghost use Rattle.program_definitions.specs.Sample.{config, one_paragraph};
 ghost use Rattle.program_definitions.specs.Task.{task_of, run, check};
-
-/// A paragraph is shown as the container `p`, any other element as one of its own name, and neighbouring characters as one text.
-pub fn shown_documents()
-    ensures text { shown (element 1 (codes "paragraph") [] (items_of (character 72 [] ∷ character 105 [] ∷ [])) ∷ [])
-        ≡ nodes.element (container_of (codes "paragraph")) (nodes_of (text (codes "Hi") ∷ [])) ∷ [] }
-    ensures inner { shown (element 1 (codes "quote") [] (items_of (element 2 (codes "paragraph") [] (items_of []) ∷ [])) ∷ character 97 [] ∷ [])
-        ≡ nodes.element (container_of (codes "quote")) (nodes_of (nodes.element (container_of (codes "paragraph")) none ∷ [])) ∷ text (codes "a") ∷ [] }
-{}
 
 /// The words are of two forms alone.
 pub fn words()
@@ -27,8 +14,18 @@ pub fn words()
     ensures more { task_of (codes "ckcore" ∷ codes "check" ∷ codes "s" ∷ codes "a" ∷ []) ≡ None }
 {}
 
-/// A script that inserts `Hi` into a paragraph and shows it, with its output; then an insertion that is refused.
+/// A script that inserts `Hi` into a paragraph and shows it, with its output; then a line of no form.
 pub fn hello()
-    ensures { answers sample one_paragraph 1 (lines_of (codes "{\"do\":\"change\",\"edits\":[{\"edit\":\"insertText\",\"at\":[0,0],\"text\":\"Hi\"}]}\n{\"do\":\"show\",\"selection\":false}\n{\"do\":\"fly\"}"))
+    ensures { answers config one_paragraph 1 (lines_of (codes "{\"do\":\"change\",\"edits\":[{\"edit\":\"insertText\",\"at\":[0,0],\"text\":\"Hi\"}]}\n{\"do\":\"show\",\"selection\":false}\n{\"do\":\"fly\"}"))
         ≡ codes "1 ok\n2 model <paragraph>Hi</paragraph>\n2 view <p>Hi</p>\n3 refused BadField /do\n" }
+{}
+
+/// A show with the selection; then a click behind the first character of the view, and one on a place that isn't there.
+pub fn clicks()
+    ensures shown { answers config one_paragraph 1 (lines_of (codes "{\"do\":\"show\"}"))
+        ≡ codes "1 model <paragraph>[]</paragraph>\n1 view <p>[]</p>\n1 selection forward\n" }
+    ensures clicked { answers config one_paragraph 1 (lines_of (codes "{\"do\":\"change\",\"edits\":[{\"edit\":\"insertText\",\"at\":[0,0],\"text\":\"Hi\"}]}\n{\"do\":\"selectView\",\"anchor\":[0,0,1],\"focus\":[0,0,1]}\n{\"do\":\"show\"}"))
+        ≡ codes "1 ok\n2 ok\n3 model <paragraph>H[]i</paragraph>\n3 view <p>H{}i</p>\n3 selection forward\n" }
+    ensures nowhere { answers config one_paragraph 1 (lines_of (codes "{\"do\":\"selectView\",\"anchor\":[0,1,0],\"focus\":[0,0]}"))
+        ≡ codes "1 refused NotInView [0,1,0]\n" }
 {}

@@ -3,6 +3,7 @@ ghost use Rattle.std.specs.Prelude.{◌≡◌};
 
 use edit_definitions::edit::Edit;
 use std::marker::Model;
+use view_tree::path::ViewPlace;
 
 /// The edits of a change, in order. It is seen as their list.
 #[derive(Debug, Drop)]
@@ -45,6 +46,8 @@ impl Edits {
 pub enum Request {
     /// Edits, made one after the other; the change is refused as a whole.
     Change(Edits),
+    /// A selection by two places of the view: from the position that the anchor means to the one that the focus means.
+    SelectView { anchor: ViewPlace, focus: ViewPlace },
     /// The model and the view, printed with the markers and the selection or without.
     Show { selection: bool },
 }
