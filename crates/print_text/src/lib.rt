@@ -1,9 +1,10 @@
-//! The printed texts of models, views and refusals.
+//! The printed texts of models, views, markers, selections and refusals.
 #![tactic(auto)]
 
 pub mod marks;
 pub mod model;
 pub mod refusals;
+pub mod selection;
 #[cfg(test)]
 mod tests;
 pub mod view;

@@ -50,15 +50,27 @@ fn push_attribute(
     push_value(out, alloc, value)
 }
 
+/// Puts attributes last, a blank before each key.
+pub(crate) fn push_attributes(
+    out: &mut String,
+    alloc: Global,
+    attrs: &Attrs,
+) -> Result<(), NoMemory>
+    ensures { OnOk result (string_bytes out.new ≡ string_bytes out.old ++ attributes_text attrs.now) }
+{
+    for (key, value) in attrs.entries() {
+        push_attribute(out, alloc, key, value)?;
+    }
+    Ok(())
+}
+
 /// Puts the tag that an element starts with last.
 fn push_start(out: &mut String, alloc: Global, name: &str, attrs: &Attrs) -> Result<(), NoMemory>
     ensures { OnOk result (string_bytes out.new
         ≡ string_bytes out.old ++ open_tag name.now (attributes_text attrs.now)) }
 {
     write!(out, "<{name}")?;
-    for (key, value) in attrs.entries() {
-        push_attribute(out, alloc, key, value)?;
-    }
+    push_attributes(out, alloc, attrs)?;
     out.push('>')
 }
 

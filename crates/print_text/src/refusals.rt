@@ -37,7 +37,7 @@ fn numbers_text(alloc: Global, numbers: &[u64]) -> Result<String, NoMemory>
 }
 
 /// A path or a position, as `[0,3]`.
-fn path_text(alloc: Global, path: &Path) -> Result<String, NoMemory>
+pub(crate) fn path_text(alloc: Global, path: &Path) -> Result<String, NoMemory>
     ensures { IfOk result (λ text. string_bytes text ≡ printed_path path.now) }
 {
     let mut numbers = Vec::with_capacity(alloc, path.len())?;

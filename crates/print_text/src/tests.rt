@@ -1,13 +1,20 @@
 //! Each public call once, at worked texts.
+ghost use Rattle.std.specs.Prelude.{◌≡◌, ◌∷◌, []};
+
 use crate::model::model_text;
 use crate::refusals::refusal_text;
+use crate::selection::{marker_lines, selection_line};
 use crate::view::view_text;
 use ck_base::NoMemory;
+use ck_base::attributes::Attrs;
 use ck_base::faults::{EditFault, Refusal, Rule};
 use ck_base::name::Name;
 use ck_base::path::Path;
 use ck_base::text::ViewText;
+use ck_base::value::Value;
+use marker_table::Markers;
 use model_doc::document::Document;
+use model_pos::{Position, Range};
 use std::alloc::{AllocError, Global};
 use view_tree::kind::NodeKind;
 use view_tree::node::Detached;
@@ -39,7 +46,9 @@ fn name(alloc: Global, text: &str) -> Result<Name, NoMemory> {
 }
 
 /// A path of two numbers.
-fn path(alloc: Global, first: u32, second: u32) -> Path {
+fn path(alloc: Global, first: u32, second: u32) -> Path
+    ensures { result ≡ first ∷ second ∷ [] }
+{
     let mut path = Path::new(alloc);
     path.push(first);
     path.push(second);
@@ -147,4 +156,64 @@ fn prints_text(alloc: Global, text: &str, without: &str, with: &str) -> bool {
 #[test]
 fn a_view(rt: HostRuntime) {
     assert!(rt; prints_text(rt.alloc(), "a<b", "a&lt;b", "[a}&lt;b"));
+}
+
+/// The position at an offset of the first paragraph.
+fn at(alloc: Global, offset: u32) -> Position
+    ensures { result ≡ 0 ∷ offset ∷ [] }
+{
+    match Position::new(alloc, path(alloc, 0, offset)) {
+        Some(position) => position,
+        None => unreachable!(),
+    }
+}
+
+/// Whether a marker of a name could be added.
+fn adds(markers: &mut Markers, name: Result<Name, NoMemory>, range: Range) -> bool {
+    match name {
+        Ok(name) => markers.add(name, range).is_ok(),
+        Err(_) => false,
+    }
+}
+
+/// Whether two markers are printed so, of which the later name was added first.
+fn prints_markers(alloc: Global, expected: &str) -> bool {
+    let mut markers = Markers::new(alloc);
+    adds(
+        &mut markers,
+        name(alloc, "note"),
+        Range::new(at(alloc, 1), at(alloc, 4)),
+    ) && adds(
+        &mut markers,
+        name(alloc, "link"),
+        Range::collapsed(at(alloc, 2)),
+    ) && is_text(marker_lines(alloc, 3, &markers), expected)
+}
+
+/// The attribute `bold`.
+fn bold(alloc: Global) -> Result<Attrs, NoMemory> {
+    let key = name(alloc, "bold")?;
+    let mut attrs = Attrs::new(alloc);
+    attrs.set(key, Value::Truth(true))?;
+    Ok(attrs)
+}
+
+/// Whether a bold selection of a direction is printed so.
+fn prints_bold(alloc: Global, backward: bool, expected: &str) -> bool {
+    match bold(alloc) {
+        Ok(attrs) => is_text(selection_line(alloc, 12, backward, &attrs), expected),
+        Err(_) => false,
+    }
+}
+
+#[test]
+fn markers_and_a_selection(rt: HostRuntime) {
+    let alloc = rt.alloc();
+    assert!(rt;
+        prints_markers(
+            alloc,
+            "3 marker link [0,2] [0,2]\n3 marker note [0,1] [0,4]\n"
+        )
+    );
+    assert!(rt; prints_bold(alloc, true, "12 selection backward bold=true\n"));
 }

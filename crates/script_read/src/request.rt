@@ -1,18 +1,21 @@
 //! From a script line to the request that it makes.
-ghost use Rattle.std.specs.Prelude.{◌≡◌};
+ghost use Rattle.std.specs.Prelude.{◌≡◌, Some};
 ghost use Rattle.serde_json.specs.View.{view, items_view};
 ghost use Rattle.json_forms.specs.Form.{Gives};
 ghost use Rattle.script_definitions.specs.Edits.{edits_at};
-ghost use Rattle.script_definitions.specs.Request.{change_of, show_of, form_of, request_of};
+ghost use Rattle.script_definitions.specs.Places.{numbers_at, place_of, place_field};
+ghost use Rattle.script_definitions.specs.Request.{change_of, select_view_of, show_of, form_of, request_of};
 
 use crate::edits::edit_at;
 use ck_base::faults::FieldPath;
 use edit_definitions::edit::Edit;
 use json_forms::fault::FormFault;
 use json_forms::forms::{bad_field, json_of, object_at, only_fields, text_field};
+use json_names::values::optional_truth;
 use script_definitions::request::{Edits, Request};
 use serde_json::Value;
 use std::alloc::Global;
+use view_tree::path::{ViewPath, ViewPlace};
 
 /// The edits of a list.
 #[tactic(auto, using(json_names::proofs::Fronts::with_front_more), unfolding(script_definitions::specs::Edits::edits_at))]
@@ -42,18 +45,84 @@ fn change_of(alloc: Global, value: &Value) -> Result<Request, FormFault>
     Ok(Request::Change(Edits::new(edits)))
 }
 
-/// A show, without a selection.
+/// The numbers of a list, of 64 bits each.
+#[tactic(auto, using(json_forms::proofs::Offsets::with_front_more), unfolding(script_definitions::specs::Places::numbers_at))]
+fn numbers_at(alloc: Global, path: &FieldPath, items: &Vec<Value>) -> Result<Vec<u64>, FormFault>
+    ensures { Gives (λ numbers. numbers.items) result (numbers_at path.now 0 (items_view items.now.items)) }
+{
+    let mut numbers = Vec::with_capacity(alloc, items.len())?;
+    for (index, item) in items.iter().enumerate() {
+        match item.as_u64() {
+            Some(number) => numbers.push(number)?,
+            None => {
+                return Err(FormFault::BadField {
+                    path: path.index(index)?,
+                });
+            }
+        }
+    }
+    Ok(numbers)
+}
+
+/// The place of these numbers: the last is its offset. None exactly where there is no number.
+#[tactic(auto, using(crate::proofs::Ends::place_last, crate::proofs::Ends::place_nowhere))]
+fn place_of(numbers: Vec<u64>) -> Option<ViewPlace>
+    ensures { result ≡ place_of numbers.items }
+{
+    let mut numbers = numbers;
+    match numbers.pop() {
+        Some(offset) => Some(ViewPlace {
+            path: ViewPath::new(numbers),
+            offset,
+        }),
+        None => None,
+    }
+}
+
+/// A field that is a place of the view.
+#[tactic(auto, unfolding(script_definitions::specs::Places::place_field))]
+fn place_field(
+    alloc: Global,
+    path: &FieldPath,
+    name: &str,
+    value: &Value,
+) -> Result<ViewPlace, FormFault>
+    ensures { Gives (λ place. place) result (place_field path.now name.now (view value.now)) }
+{
+    let Some(items) = value.get(name).and_then(Value::as_array) else {
+        return Err(bad_field(path, name));
+    };
+    let at = path.field(name)?;
+    let numbers = numbers_at(alloc, &at, items)?;
+    match place_of(numbers) {
+        Some(place) => Ok(place),
+        None => Err(bad_field(path, name)),
+    }
+}
+
+/// A selection by two places of the view.
+#[tactic(auto, unfolding(script_definitions::specs::Request::select_view_of))]
+fn select_view_of(alloc: Global, value: &Value) -> Result<Request, FormFault>
+    ensures { Gives (λ request. request) result (select_view_of (view value.now)) }
+{
+    let root = FieldPath::new(alloc);
+    let anchor = place_field(alloc, &root, "anchor", value)?;
+    let focus = place_field(alloc, &root, "focus", value)?;
+    only_fields(&root, &["do", "anchor", "focus"], value)?;
+    Ok(Request::SelectView { anchor, focus })
+}
+
+/// A show, with the selection or without: with it where the field isn't there.
 #[tactic(auto, unfolding(script_definitions::specs::Request::show_of))]
 fn show_of(alloc: Global, value: &Value) -> Result<Request, FormFault>
     ensures { Gives (λ request. request) result (show_of (view value.now)) }
 {
     let root = FieldPath::new(alloc);
-    match value.get("selection").and_then(Value::as_bool) {
-        Some(false) => {}
-        _ => return Err(bad_field(&root, "selection")),
-    }
+    let selection = optional_truth(&root, "selection", value)?;
     only_fields(&root, &["do", "selection"], value)?;
-    Ok(Request::Show { selection: false })
+    Ok(Request::Show {
+        selection: selection.unwrap_or(true),
+    })
 }
 
 /// The request of the form that the field `do` names.
@@ -63,6 +132,7 @@ fn form_of(alloc: Global, kind: &str, value: &Value) -> Result<Request, FormFaul
 {
     match kind {
         "change" => change_of(alloc, value),
+        "selectView" => select_view_of(alloc, value),
         "show" => show_of(alloc, value),
         _ => Err(bad_field(&FieldPath::new(alloc), "do")),
     }

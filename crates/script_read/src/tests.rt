@@ -1,9 +1,11 @@
-//! The forms of edits: each is read, and refused at each of its fields.
+//! The forms of edits, of selections by places of the view and of shows: each is read, and refused at each of its fields.
 use crate::request::read_request;
+use ck_base::faults::FieldPath;
 use json_forms::fault::FormFault;
 use script_definitions::request::Request;
 use std::alloc::Global;
 use std::test::Fail;
+use view_tree::path::ViewPlace;
 
 /// A field's JSON text that fits each form in which the field stands.
 fn fitting(field: &str) -> &'static str {
@@ -48,17 +50,28 @@ fn is_change(alloc: Global, line: &str, count: usize) -> bool {
     }
 }
 
+/// Whether a path has this text.
+fn is_path(alloc: Global, path: &FieldPath, want: &str) -> bool {
+    let scalars: Result<Vec<char>, _> = want.chars().collect(alloc);
+    match scalars {
+        Ok(scalars) => path.scalars() == scalars.as_slice(),
+        Err(_) => false,
+    }
+}
+
+/// Whether a line is refused at this path.
+fn is_line_refused_at(alloc: Global, line: &str, path: &str) -> bool {
+    match read_request(alloc, line.as_bytes()) {
+        Err(FormFault::BadField { path: found }) => is_path(alloc, &found, path),
+        _ => false,
+    }
+}
+
 /// Whether a line is refused at a field of its first edit.
 fn is_refused_at(alloc: Global, line: &str, field: &str) -> Result<bool, Fail> {
     let mut path = String::from_str(alloc, "/edits/0/")?;
     path.push_str(field)?;
-    match read_request(alloc, line.as_bytes()) {
-        Err(FormFault::BadField { path: found }) => {
-            let want: Vec<char> = path.as_str().chars().collect(alloc)?;
-            Ok(found.scalars() == want.as_slice())
-        }
-        _ => Ok(false),
-    }
+    Ok(is_line_refused_at(alloc, line, path.as_str()))
 }
 
 /// Whether an edit with these fields is read, and is refused without each of them, with each of another kind, and with one more.
@@ -205,4 +218,106 @@ fn longest_positions(rt: HostRuntime) -> Result<(), Fail> {
     let longer = split_line(alloc, 66)?;
     assert!(rt; is_refused_at(alloc, longer.as_str(), "at")?);
     Ok(())
+}
+
+/// Expects that each line is refused at its path.
+fn expect_refusals(alloc: Global, rows: &[(&str, &str)]) -> Result<(), Fail> {
+    for (line, path) in rows {
+        if !is_line_refused_at(alloc, line, path) {
+            return Err(Fail::new("another answer"));
+        }
+    }
+    Ok(())
+}
+
+#[test]
+fn refused_anchors(rt: HostRuntime) -> Result<(), Fail> {
+    expect_refusals(
+        rt.alloc(),
+        &[
+            (r#"{"do":"selectView","focus":[]}"#, "/anchor"),
+            (r#"{"do":"selectView","anchor":"0","focus":[0]}"#, "/anchor"),
+            (r#"{"do":"selectView","anchor":[],"focus":[0]}"#, "/anchor"),
+            (
+                r#"{"do":"selectView","anchor":[0,-1],"focus":[0]}"#,
+                "/anchor/1",
+            ),
+            (
+                r#"{"do":"selectView","anchor":[1.5],"focus":[0]}"#,
+                "/anchor/0",
+            ),
+            (
+                r#"{"do":"selectView","anchor":[18446744073709551616],"focus":[0]}"#,
+                "/anchor/0",
+            ),
+        ],
+    )
+}
+
+#[test]
+fn refused_focuses_and_shows(rt: HostRuntime) -> Result<(), Fail> {
+    expect_refusals(
+        rt.alloc(),
+        &[
+            (r#"{"do":"selectView","anchor":[0],"surplus":1}"#, "/focus"),
+            (r#"{"do":"selectView","anchor":[0],"focus":"0"}"#, "/focus"),
+            (r#"{"do":"selectView","anchor":[0],"focus":[]}"#, "/focus"),
+            (
+                r#"{"do":"selectView","anchor":[0],"focus":[0,-1]}"#,
+                "/focus/1",
+            ),
+            (
+                r#"{"do":"selectView","anchor":[0],"focus":[1.5]}"#,
+                "/focus/0",
+            ),
+            (
+                r#"{"do":"selectView","anchor":[0],"focus":[18446744073709551616]}"#,
+                "/focus/0",
+            ),
+            (
+                r#"{"do":"selectView","anchor":[0],"focus":[0],"surplus":1}"#,
+                "/surplus",
+            ),
+            (r#"{"do":"show","selection":0}"#, "/selection"),
+            (r#"{"do":"show","selection":true,"surplus":1}"#, "/surplus"),
+        ],
+    )
+}
+
+/// Whether a place has these indices and this offset.
+fn is_place(place: &ViewPlace, indices: &[u64], offset: u64) -> bool {
+    place.path.as_slice() == indices && place.offset == offset
+}
+
+/// Whether a line selects from the greatest offset in the view's own list to the start of child 3 of the node of the greatest index
+/// there.
+fn selects_view(alloc: Global, line: &str) -> bool {
+    match read_request(alloc, line.as_bytes()) {
+        Ok(Request::SelectView { anchor, focus }) => {
+            is_place(&anchor, &[], u64::MAX) && is_place(&focus, &[u64::MAX, 3], 0)
+        }
+        _ => false,
+    }
+}
+
+/// Whether a line is a show, with the selection or without.
+fn is_show(alloc: Global, line: &str, with_selection: bool) -> bool {
+    match read_request(alloc, line.as_bytes()) {
+        Ok(Request::Show { selection }) => selection == with_selection,
+        _ => false,
+    }
+}
+
+#[test]
+fn selections_and_shows(rt: HostRuntime) {
+    let alloc = rt.alloc();
+    assert!(rt;
+        selects_view(
+            alloc,
+            r#"{"do":"selectView","anchor":[18446744073709551615],"focus":[18446744073709551615,3,0]}"#
+        )
+    );
+    assert!(rt; is_show(alloc, r#"{"do":"show"}"#, true));
+    assert!(rt; is_show(alloc, r#"{"do":"show","selection":true}"#, true));
+    assert!(rt; is_show(alloc, r#"{"do":"show","selection":false}"#, false));
 }

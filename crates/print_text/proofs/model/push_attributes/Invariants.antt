@@ -1,6 +1,6 @@
 use Rattle.std.proofs.Common.{◌≡◌, ◌++◌, take, string_bytes}
 use Rattle.print_definitions.specs.Values.{attributes_text}
-use Rattle.print_text.proofs.model.push_start.Given as goal
+use Rattle.print_text.proofs.model.push_attributes.Given as goal
 
 -- the attributes so far
 abbrev pub invariant-loop-key : goal.invariant-loop-key
