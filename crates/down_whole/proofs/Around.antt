@@ -3,7 +3,7 @@ use Rattle.std.proofs.Common.{◌≡◌, ℕ, List, [], ◌∷◌, ◌++◌, tru
 use Rattle.view_definitions.specs.Node.{Head, ViewNode, ViewNodes, text, element, list_of, nodes_of}
 use Rattle.view_definitions.specs.NodeCode.{list_of-nodes_of}
 use Rattle.view_definitions.specs.Layer.{Layer, same_layer, layer_of, in_layer}
-use Rattle.view_definitions.specs.Row.{Content, leaf, item, character, caret, Entry, Piece, Pieces, nothing, first, bare, wrapped, put, pieces_of, character_before, shown, both_layers, is_plain, IsPlainRow}
+use Rattle.view_definitions.specs.Row.{Content, leaf, item, character, caret, Entry, Piece, Pieces, nothing, first, bare, wrapped, put, pieces_of, character_before, shown, both_layers}
 use Rattle.view_definitions.proofs.Layers.{same_layer-true, same_layer-itself}
 use Rattle.view_definitions.proofs.Joins.{PlainPieces, leaf_none, item_none}
 use Rattle.view_tree.specs.Changes.{inner_of}
@@ -130,23 +130,6 @@ pub pieces-around : (row : List Entry) (layers : List Layer) (other : List Entry
 pieces-around [] layers other = refl
 pieces-around (entry ∷ row) layers other =
     ap (put entry.layers entry.content) (pieces-around row layers other) ∙ put-around entry.layers entry.content (pieces_of row) layers (pieces_of other)
-
--- ---- rows without the caret
-
-plain-put : (layers : List Layer) (content : Content) (pieces : Pieces) → is_plain content ≡ true → PlainPieces pieces → PlainPieces (put layers content pieces)
-plain-put [] content pieces p h = (p, h)
-plain-put (layer ∷ layers) content nothing p h = (plain-put layers content nothing p tt, tt)
-plain-put (layer ∷ layers) content (first (bare next) pieces) p h = (plain-put layers content nothing p tt, h)
-plain-put (layer ∷ layers) content (first (wrapped other inner) pieces) p h =
-    elim (same_layer layer other) as (λ b. PlainPieces (if b then first (wrapped layer (put layers content inner)) pieces else first (wrapped layer (put layers content nothing)) (first (wrapped other inner) pieces))) [
-      | true ↦ (plain-put layers content inner p h.0, h.1)
-      | false ↦ (plain-put layers content nothing p tt, h)
-    ]
-
--- a row without the caret has pieces without it
-pub plain-pieces : (row : List Entry) → IsPlainRow row → PlainPieces (pieces_of row)
-plain-pieces [] h = tt
-plain-pieces (entry ∷ row) h = plain-put entry.layers entry.content (pieces_of row) h.0 (plain-pieces row h.1)
 
 -- ---- the nodes
 

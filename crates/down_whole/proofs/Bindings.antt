@@ -74,7 +74,7 @@ with_bindings-append (binding ∷ xs) ys mapper = with_bindings-append xs ys (wi
 own : (n : ℕ) → (n == n) ≡ true
 own n = grind (arith, nat_tests)
 
-flipped : (n m : ℕ) → (n == m) ≡ (m == n)
+pub flipped : (n m : ℕ) → (n == m) ≡ (m == n)
 flipped n m = grind (arith, nat_tests)
 
 none_some : (a : Option Binding) → a ≡ None → is_some a ≡ false
@@ -82,7 +82,7 @@ none_some a e = ap is_some e
 
 module _ (key : Binding → ℕ) where
   -- how many bindings have this key
-  abbrev held : ℕ → List Binding → ℕ
+  abbrev pub held : ℕ → List Binding → ℕ
   held n [] = 0
   held n (binding ∷ bindings) = (if key binding == n then 1 else 0) + held n bindings
 
@@ -108,7 +108,7 @@ module _ (key : Binding → ℕ) where
   present binding (other ∷ bindings) (inr m) = omega (arith, present binding bindings m)
 
   -- a binding whose key is held once is found by it
-  found : (binding : Binding) (bindings : List Binding) → Among binding bindings → held (key binding) bindings ≤ 1 → find (λ other. key other == key binding) bindings ≡ Some binding
+  pub found : (binding : Binding) (bindings : List Binding) → Among binding bindings → held (key binding) bindings ≤ 1 → find (λ other. key other == key binding) bindings ≡ Some binding
   found binding [] h o = absurd h
   found binding (other ∷ bindings) (inl e) o =
       ap (λ t. cond t (Some other) (find (λ other. key other == key binding) bindings)) (ap (λ b. key other == key b) e ∙ own (key other)) ∙ ap Some (sym e)
@@ -129,7 +129,7 @@ module _ (key : Binding → ℕ) where
 
 -- ---- each id and each number once
 
-abbrev Once : List Binding → Type 0
+abbrev pub Once : List Binding → Type 0
 Once bindings = ((id : ℕ) → held (λ binding. binding.id) id bindings ≤ 1) × ((number : ℕ) → held (λ binding. binding.number) number bindings ≤ 1)
 
 added : (mapper made : Mapper) (one other : Bool) → one ≡ false → other ≡ false → (if one || other then mapper else made) ≡ made
@@ -148,7 +148,7 @@ bound-behind xs (binding ∷ ys) caret o =
     ∙ ap (λ bindings. record { bindings = bindings; caret = caret }) same
 
 -- how often a number stands in a list
-abbrev times : ℕ → List ℕ → ℕ
+abbrev pub times : ℕ → List ℕ → ℕ
 times id [] = 0
 times id (other ∷ ids) = (if id == other then 1 else 0) + times id ids
 
@@ -173,7 +173,7 @@ mutual
       let flip : one_if (own_id == id) ≡ one_if (id == own_id) = ap one_if (flipped own_id id) in
       omega (arith, all, rest, flip)
 
-  ids_times : (id : ℕ) (conversion : Conversion) (parent : List ℕ) (before drawn : ℕ) (list : Items)
+  pub ids_times : (id : ℕ) (conversion : Conversion) (parent : List ℕ) (before drawn : ℕ) (list : Items)
       → held (λ binding. binding.id) id (bindings_among conversion parent before drawn list) ≡ times id (ids_of_inner list)
   ids_times id conversion parent before drawn none = refl
   ids_times id conversion parent before drawn (more item rest) =
@@ -223,7 +223,7 @@ none-times : (id : ℕ) (ids : List ℕ) → AllByRecursion (λ other. nat_eq id
 none-times id [] h = refl
 none-times id (other ∷ ids) h = ap (λ t. (if t then 1 else 0) + times id ids) h.0 ∙ omega (arith, none-times id ids h.1)
 
-equal : (n m : ℕ) → (n == m) ≡ true → n ≡ m
+pub equal : (n m : ℕ) → (n == m) ≡ true → n ≡ m
 equal n m e = grind (arith, nat_tests)
 
 once-times : (ids : List ℕ) → IsDistinct nat_eq ids → (id : ℕ) → times id ids ≤ 1
@@ -235,11 +235,11 @@ once-times (other ∷ ids) h id = go (id == other) refl (none-times other ids h.
     go true t n rest = (let none_here : times id ids ≡ 0 = ap (λ v. times v ids) (equal id other t) ∙ n in omega (arith, none_here))
     go false t n rest = omega (arith, rest)
 
-same-ids : (list : List Item) → ids_of_inner (items_of list) ≡ ids_of list
+pub same-ids : (list : List Item) → ids_of_inner (items_of list) ≡ ids_of list
 same-ids [] = refl
 same-ids (item ∷ list) = ap (λ ids. ids_of_item item ++ ids) (same-ids list)
 
-once : (conversion : Conversion) (parent : List ℕ) (before drawn : ℕ) (list : List Item) → IsDistinct nat_eq (ids_of list) → Once (bindings_among conversion parent before drawn (items_of list))
+pub once : (conversion : Conversion) (parent : List ℕ) (before drawn : ℕ) (list : List Item) → IsDistinct nat_eq (ids_of list) → Once (bindings_among conversion parent before drawn (items_of list))
 once conversion parent before drawn list d = (
   λ id. subst (λ n. n ≤ 1) (sym (ids_times id conversion parent before drawn (items_of list) ∙ ap (times id) (same-ids list))) (once-times (ids_of list) d id),
   λ n. subst (λ m. m ≤ 1) (sym (numbers_held n conversion parent before drawn (items_of list))) (range-once drawn (elements_among (items_of list)) n),

@@ -14,7 +14,7 @@ use Rattle.document_definitions.specs.Selection.{same_position}
 use Rattle.view_definitions.specs.Node.{ViewNode}
 use Rattle.view_definitions.specs.Layer.{Layer}
 use Rattle.view_definitions.specs.Row.{Content, leaf, item, character, caret, Entry, pieces_of, shown, nest, join, is_plain, IsPlainRow}
-use Rattle.view_definitions.proofs.Joins.{join-none, join-assoc, nest-cons, plain-append}
+use Rattle.view_definitions.proofs.Joins.{join-none, join-assoc, nest-cons, plain-append, plain-pieces}
 use Rattle.converter_definitions.specs.declared.stock.Leaf.{Leaf}
 use Rattle.converter_definitions.specs.Gives.{Converter}
 use Rattle.converter_definitions.specs.Layers.{leaf_of}
@@ -28,7 +28,7 @@ use Rattle.pos_mapper.specs.Bindings.{CaretPlace}
 use Rattle.down_whole.specs.Between.{between, caret_at}
 use Rattle.down_whole.specs.Found.{is_in_content, found_here}
 use Rattle.down_whole.specs.Written.{Written, nothing_written, with_content, with_row}
-use Rattle.down_whole.proofs.Around.{caret_in, pieces-around, shown-around, plain-pieces}
+use Rattle.down_whole.proofs.Around.{caret_in, pieces-around, shown-around}
 use Rattle.down_whole.proofs.Found.{row-size, caret-found}
 use Rattle.down_whole.proofs.Rows.{with_row-append}
 

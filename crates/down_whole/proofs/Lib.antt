@@ -12,3 +12,4 @@ pub mod Partway
 pub mod Places
 pub mod Mapping
 pub mod Boundary
+pub mod Numbered

@@ -32,7 +32,7 @@ abbrev unbound : Mapper
 unbound = record { bindings = []; caret = None }
 
 -- what was made of the whole document, where the numbers are those that were bound
-abbrev AllMade : Conversion → Document → List ViewNode → Mapper → Type 0
+abbrev pub AllMade : Conversion → Document → List ViewNode → Mapper → Type 0
 AllMade conversion document nodes new =
     (numbers : Numbers) → MadeContent (numbered_scene numbers conversion document) (codes "$root") [] 0 document.items nodes unbound new
 
@@ -47,13 +47,13 @@ nodes-are : (conversion : Conversion) (document : Document) (nodes : List ViewNo
     → nodes ≡ numbered_downcast (numbers_of (all_bindings conversion document)) conversion document
 nodes-are conversion document nodes new m d = (m (numbers_of (all_bindings conversion document)) (agreed conversion document d)).0
 
-mapper-bindings : (conversion : Conversion) (document : Document) (nodes : List ViewNode) (new : Mapper) → AllMade conversion document nodes new → IsDistinct nat_eq (ids_of document.items)
+pub mapper-bindings : (conversion : Conversion) (document : Document) (nodes : List ViewNode) (new : Mapper) → AllMade conversion document nodes new → IsDistinct nat_eq (ids_of document.items)
     → new.bindings ≡ bindings_among conversion (codes "$root") 0 0 (items_of document.items)
 mapper-bindings conversion document nodes new m d =
     ap (λ (m : Mapper). m.bindings) ((m (numbers_of (all_bindings conversion document)) (agreed conversion document d)).1)
     ∙ ap (λ (m : Mapper). m.bindings) (mapper-bound conversion (codes "$root") 0 0 document.items None d)
 
-items-distinct : (state : State) → IsSound state → IsDistinct nat_eq (ids_of state.document.items)
+pub items-distinct : (state : State) → IsSound state → IsDistinct nat_eq (ids_of state.document.items)
 items-distinct state s = distinct-front (ids_of state.document.items) (flat_map ids_of state.cells) s.distinct
 
 -- the view is the downcast

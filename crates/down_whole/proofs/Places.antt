@@ -13,7 +13,7 @@ use Rattle.view_definitions.specs.Layer.{Layer}
 use Rattle.converter_definitions.specs.Gives.{Conversion}
 use Rattle.downcast_definitions.specs.Scene.{Numbers, Scene, Caret, typed_layers, same_layers, caret_of, numbered_scene}
 use Rattle.downcast_definitions.specs.Seen.{boundary_place, in_children, place_in}
-use Rattle.downcast_definitions.proofs.Inverse.{IsWithin}
+use Rattle.downcast_definitions.proofs.Inverse.{same-items, IsWithin}
 use Rattle.downcast_definitions.proofs.Numbering.{place-in-plain}
 use Rattle.pos_mapper.specs.Bindings.{CaretPlace}
 use Rattle.pos_mapper.specs.Mapped.{caret_place}
@@ -27,10 +27,6 @@ Outside path position = (rest : List ℕ) → position ≢ path ++ rest
 abbrev first_of : List ℕ → ℕ
 first_of [] = 0
 first_of (index ∷ path) = index
-
-same-items : (children : Items) → items_of (list_of children) ≡ children
-same-items items.none = refl
-same-items (items.more of children) = ap (λ rest. items.more of rest) (same-items children)
 
 -- a position in the item at an index is outside the one at another
 other-item : (path : List ℕ) (number index : ℕ) (rest position : List ℕ) → position ≡ path ++ number ∷ rest → number ≢ index → Outside (path ++ index ∷ []) position

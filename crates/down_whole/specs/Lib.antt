@@ -8,3 +8,4 @@ pub mod Scenes
 pub mod Ways
 pub mod Front
 pub mod Made
+pub mod Numbered

@@ -8,4 +8,6 @@ mod fill;
 mod maker;
 mod row;
 mod scene;
+#[cfg(test)]
+mod tests;
 pub mod whole;

@@ -4,7 +4,6 @@ ghost use Rattle.converter_definitions.specs.Form.{forms_of};
 ghost use Rattle.converter_definitions.specs.Parts.{shape_of, shapes_of};
 ghost use Rattle.converter_definitions.specs.Shape.{form_count, inner_count};
 ghost use Rattle.converter_definitions.specs.Views.{filled};
-ghost use Rattle.view_tree.specs.Changes.{number_of};
 ghost use Rattle.pos_mapper.specs.Bindings.{with_binding};
 ghost use Rattle.pos_mapper.specs.Mapped.{slot_of};
 ghost use Rattle.downcast_definitions.specs.Rows.{only, with_number};
@@ -19,7 +18,7 @@ use model_tree::id::ElementId;
 use pos_mapper::mapper::Mapper;
 use pos_mapper::parts::Slot;
 use std::alloc::Global;
-use view_tree::node::{Children, Detached, NodeRef, ViewNumber};
+use view_tree::node::{Children, Detached, ViewNumber};
 use view_tree::view::View;
 
 /// Makes the view elements of a document's elements, and binds them.
@@ -28,16 +27,6 @@ pub(crate) struct Maker {
     // it draws the numbers; its nodes are put into it in the end
     pub(crate) view: View,
     pub(crate) mapper: Mapper,
-}
-
-/// The number of a node.
-fn number_of(node: &Detached) -> Option<ViewNumber>
-    ensures { result ≡ number_of node.now }
-{
-    match node.node() {
-        NodeRef::Text(_) => None,
-        NodeRef::Element { number, .. } => number,
-    }
 }
 
 /// The way to the slot of a shape, and how many nodes stand behind it in its list.
@@ -162,7 +151,7 @@ impl Maker {
         let slot = slot_of(alloc, shape)?;
         let mut node = filled_shape(alloc, shape, content)?;
         self.view.number(&mut node);
-        let number = number_of(&node);
+        let number = node.number();
         bind(&mut self.mapper, id, number, slot)?;
         Ok(node)
     }

@@ -5,9 +5,12 @@ ghost use Rattle.conv_rules.specs.Listed.{conversion_of};
 ghost use Rattle.downcast_definitions.specs.Scene.{Numbers, numbered_scene, caret_of};
 ghost use Rattle.downcast_definitions.specs.Rows.{downcast};
 ghost use Rattle.downcast_definitions.specs.Shown.{HasShapes};
+ghost use Rattle.document_definitions.specs.Document.{ids_of};
+ghost use Rattle.pos_mapper.specs.Bindings.{numbers_of};
 ghost use Rattle.pos_mapper.specs.Mapped.{IsMapped};
 ghost use Rattle.down_whole.specs.Viewed.{caret_view};
 ghost use Rattle.down_whole.specs.Made.{MadeContent};
+ghost use Rattle.down_whole.specs.Numbered.{AreNumbered};
 
 use crate::caret::{Caret, caret_of};
 use crate::content::content;
@@ -84,7 +87,7 @@ fn made<L: Ledger>(
 }
 
 /// The view of a document, as the converters of a list make it, and the mapper of the view. Each element is numbered, and bound to its view
-/// element, also one that the view doesn't show. It answers `NoMemory` alone beside Ok.
+/// element, also one that the view doesn't show; no two have one number. It answers `NoMemory` alone beside Ok.
 pub fn downcast<L: Ledger>(
     alloc: Global,
     list: &ConverterList,
@@ -93,6 +96,7 @@ pub fn downcast<L: Ledger>(
 ) -> Result<(View, Mapper), NoMemory>
     ensures view { IfOk result (λ both. content_of both.0.nodes ≡ downcast (conversion_of (λ object. gives (object.vtable, object.value)) list.now) document.now.state.document) }
     ensures mapper { IfOk result (λ both. IsMapped (conversion_of (λ object. gives (object.vtable, object.value)) list.now) document.now.state.document both.1 both.0.nodes) }
+    ensures numbered { IfOk result (λ both. AreNumbered (numbers_of both.1) (ids_of document.now.state.document.items)) }
     ensures shapes { OnOk result (HasShapes (conversion_of (λ object. gives (object.vtable, object.value)) list.now) document.now.state.document) }
 {
     let _tree = document.tree();
