@@ -1,4 +1,5 @@
+pub mod HandedIn
+pub mod Configured
 pub mod Edited
-pub mod Texts
 pub mod Tested
 pub mod Opened

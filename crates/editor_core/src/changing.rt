@@ -3,16 +3,25 @@ ghost use Rattle.std.specs.Prelude.{◌≡◌, ◌≢◌, Ok, Err, IfOk, IfErr, 
 ghost use Rattle.ck_base.specs.declared.faults.EditFault.TheVariants.{NoMemory as NoMemoryForEdit};
 ghost use Rattle.breach_definitions.specs.Breach.{breach};
 ghost use Rattle.schema_definitions.specs.Allowed.{is_registered};
+ghost use Rattle.view_definitions.specs.Node.{content};
+ghost use Rattle.downcast_definitions.specs.Rows.{downcast as downcast_of};
+ghost use Rattle.conv_rules.specs.Listed.{conversion_of};
+ghost use Rattle.document_definitions.specs.Document.{ids_of};
+ghost use Rattle.pos_mapper.specs.Bindings.{numbers_of};
+ghost use Rattle.pos_mapper.specs.Mapped.{IsMapped};
+ghost use Rattle.down_whole.specs.Numbered.{AreNumbered};
 ghost use Rattle.edit_definitions.specs.Performed.{all_performed};
 ghost use Rattle.step_definitions.specs.Step.{step};
-ghost use Rattle.program_definitions.specs.Shown.{shown};
 ghost use Rattle.editor_core.specs.Tested.{Tests};
 
-use crate::plain::view_of;
 use ck_base::faults::{EditFault, Refusal};
+use ck_base::steps::{Ledger, Steps};
+use conv_rules::list::ConverterList;
+use down_whole::whole::downcast;
 use edit_definitions::edit::Edit;
 use model_doc::Document;
 use model_writer::{Batch, perform};
+use pos_mapper::mapper::Mapper;
 use schema_rules::schema::Schema;
 use std::alloc::Global;
 use view_tree::view::View;
@@ -56,16 +65,15 @@ fn tested(document: &Document, schema: &Schema) -> Result<(), Refusal>
     }
 }
 
-/// Makes the edits of a change, tests the schema, and makes the view of the document then. It answers the change's refusal, or `NoMemory`;
-/// then the document may be changed, and what it keeps stays kept.
-pub(crate) fn changed(
+/// Makes the edits of a change, and tests the schema. It answers the change's refusal, or `NoMemory`; then the document may be changed, and what
+/// it keeps stays kept.
+fn edited(
     alloc: Global,
     document: &mut Document,
     schema: &Schema,
     edits: &[Edit],
-) -> Result<View, Refusal>
+) -> Result<(), Refusal>
     ensures ok { OnOk result (step schema.now edits.now document.old.state ≡ Ok document.new.state) }
-    ensures view { IfOk result (λ view. view.nodes ≡ shown document.new.state.document.items) }
     ensures refused { IfErr result (λ refusal. refusal ≢ Refusal.NoMemory → step schema.now edits.now document.old.state ≡ Err refusal) }
     ensures kept { document.new.kept ≡ document.old.kept }
 {
@@ -74,6 +82,29 @@ pub(crate) fn changed(
         Ok(()) => {}
         Err(fault) => return Err(refusal_of(fault)),
     }
-    tested(document, schema)?;
-    Ok(view_of(alloc, document.tree())?)
+    tested(document, schema)
+}
+
+/// Makes the edits of a change, tests the schema, and makes the view of the document then, with its mapper. It answers the change's refusal, or
+/// `NoMemory`; then the document may be changed, and what it keeps stays kept.
+pub(crate) fn changed<L: Ledger>(
+    alloc: Global,
+    document: &mut Document,
+    schema: &Schema,
+    list: &ConverterList,
+    edits: &[Edit],
+    steps: &mut Steps<L>,
+) -> Result<(View, Mapper), Refusal>
+    ensures ok { OnOk result (step schema.now edits.now document.old.state ≡ Ok document.new.state) }
+    ensures view { IfOk result (λ both. content both.0.nodes ≡ downcast_of (conversion_of (λ object. gives (object.vtable, object.value)) list.now) document.new.state.document) }
+    ensures mapper { IfOk result (λ both. IsMapped (conversion_of (λ object. gives (object.vtable, object.value)) list.now) document.new.state.document both.1 both.0.nodes) }
+    ensures numbered { IfOk result (λ both. AreNumbered (numbers_of both.1) (ids_of document.new.state.document.items)) }
+    ensures refused { IfErr result (λ refusal. refusal ≢ Refusal.NoMemory → step schema.now edits.now document.old.state ≡ Err refusal) }
+    ensures kept { document.new.kept ≡ document.old.kept }
+{
+    edited(alloc, document, schema, edits)?;
+    match downcast(alloc, list, document, steps) {
+        Ok(both) => Ok(both),
+        Err(_) => Err(Refusal::NoMemory),
+    }
 }

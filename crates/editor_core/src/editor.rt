@@ -1,32 +1,56 @@
 //! The editor.
-ghost use Rattle.std.specs.Prelude.{◌≡◌, ◌≢◌, ◌≤◌, [], ◌∷◌, take, Ok, Err, IfOk, IfErr, OnOk, OnErr};
-ghost use Rattle.document_definitions.specs.Document.{empty_state};
+ghost use Rattle.std.specs.Prelude.{◌≡◌, ◌≢◌, ◌≤◌, [], ◌∷◌, ◌++◌, take, map, None, Ok, Err, IfOk, IfErr, OnOk, OnErr};
+ghost use Rattle.converter_read.specs.PlanNames.{first_unknown_custom};
+ghost use Rattle.document_definitions.specs.Document.{empty_state, ids_of};
+ghost use Rattle.view_definitions.specs.Node.{content};
+ghost use Rattle.conv_rules.specs.Listed.{conversion_of};
+ghost use Rattle.downcast_definitions.specs.Rows.{downcast};
+ghost use Rattle.downcast_definitions.specs.Seen.{seen};
+ghost use Rattle.down_whole.specs.Numbered.{AreNumbered};
 ghost use Rattle.step_definitions.specs.Step.{step, opening};
-ghost use Rattle.program_definitions.specs.Shown.{shown};
+ghost use Rattle.program_definitions.specs.Converters.{names_of};
+ghost use Rattle.program_definitions.specs.Selecting.{selecting};
 ghost use Rattle.editor_core.specs.Edited as editing;
-ghost use Rattle.editor_core.specs.Edited.{fresh, started};
+ghost use Rattle.editor_core.specs.Edited.{fresh, started, config_in, state_in, numbers_in, edited_of, IsCurrent};
+ghost use Rattle.editor_core.specs.HandedIn.{givings_of};
 ghost use Rattle.editor_core.specs.Opened.{Faults, Opens};
+ghost use Rattle.editor_core.specs.Configured.{configured};
 
 use crate::changing::changed;
+use crate::extensions::Extensions;
+use crate::listing::list_of;
+use crate::selecting::{position_of, select_from};
 use ck_base::NoMemory;
 use ck_base::attributes::Attrs;
 use ck_base::faults::Refusal;
 use ck_base::name::Name;
 use ck_base::path::Path;
+use ck_base::steps::{Ledger, Steps};
+use conv_rules::list::ConverterList;
+use converter_read::plan::ConverterPlan;
 use edit_definitions::edit::Edit;
 use model_doc::Document;
 use model_pos::Position;
+use model_tree::id::ElementId;
+use pos_mapper::mapper::Mapper;
 use schema_rules::schema::Schema;
 use std::alloc::Global;
-use std::marker::Model;
+use view_tree::node::ViewNumber;
+use view_tree::path::ViewPlace;
 use view_tree::view::View;
 
 /// What an editor is made of.
 #[derive(Debug, Drop)]
 pub struct Parts {
     pub schema: Schema,
+    /// The version of the settings, 1 or 2: in 2 neighbouring layers of the view are joined.
+    pub version: u32,
     /// The item of the element that a new document has.
     pub start: Option<Name>,
+    /// The converters, in the order of the settings.
+    pub converters: Vec<ConverterPlan>,
+    /// The names of the elements that are counted for the converters.
+    pub indexed: Vec<Name>,
 }
 
 /// Why no editor is opened.
@@ -41,30 +65,16 @@ pub enum OpenFault {
 /// How many changes an editor accepts.
 const MOST_CHANGES: u32 = 4_294_967_295;
 
-/// An editor: a document that obeys a schema, and the view of it. It is seen as the rules of its schema, the state of its document, and how many
-/// changes it has accepted.
+/// An editor: a document that obeys a schema, and the view that its converters make of it. It is seen as what the document is edited and shown
+/// by, the document's state, and how many changes it has accepted.
 #[derive(Drop)]
 pub struct Editor {
-    schema: Schema,
-    document: Document,
-    view: View,
-    accepted: u32,
-}
-
-impl Model for Editor {
-    ghost use Rattle.std.specs.Prelude.{◌≡◌, None};
-    ghost use Rattle.std.specs.Coded.{codes};
-    ghost use Rattle.model_doc.specs.Code.{coded_item};
-    ghost use Rattle.program_definitions.specs.Shown.{shown};
-    ghost use Rattle.editor_core.specs.Edited.{Edited};
-
-    ghost Value = { Edited };
-
-    ghost coded = { Prim.hlevel (codes, coded_item) };
-
-    ghost view = { λ editor. record { rules = editor.schema; state = editor.document.state; accepted = editor.accepted } };
-
-    ghost invariant = { λ editor. (editor.document.kept ≡ None) × (editor.view.nodes ≡ shown editor.document.state.document.items) };
+    pub(crate) list: ConverterList,
+    pub(crate) schema: Schema,
+    pub(crate) document: Document,
+    pub(crate) view: View,
+    pub(crate) mapper: Mapper,
+    pub(crate) accepted: u32,
 }
 
 /// The position of two numbers at most, of which the first is 0, and the other too.
@@ -112,18 +122,26 @@ fn open_fault(refusal: Refusal) -> OpenFault
     }
 }
 
-/// An editor of a schema, whose document starts with these edits.
-fn opened(alloc: Global, schema: Schema, edits: &[Edit]) -> Result<Editor, OpenFault>
-    ensures { Opens (fresh schema (step schema edits.now (empty_state 1))) result }
+/// An editor of a schema and converters, whose document starts with these edits.
+fn opened<L: Ledger>(
+    alloc: Global,
+    schema: Schema,
+    list: ConverterList,
+    edits: &[Edit],
+    steps: &mut Steps<L>,
+) -> Result<Editor, OpenFault>
+    ensures { Opens (λ object. gives (object.vtable, object.value)) (fresh (record { rules = schema; conversion = conversion_of (λ object. gives (object.vtable, object.value)) list }) (step schema edits.now (empty_state 1))) result }
 {
     let Ok(mut document) = Document::new(alloc, 1) else {
         return Err(OpenFault::NoMemory);
     };
-    match changed(alloc, &mut document, &schema, edits) {
-        Ok(view) => Ok(Editor {
+    match changed(alloc, &mut document, &schema, &list, edits, steps) {
+        Ok((view, mapper)) => Ok(Editor {
+            list,
             schema,
             document,
             view,
+            mapper,
             accepted: 0,
         }),
         Err(refusal) => Err(open_fault(refusal)),
@@ -132,33 +150,65 @@ fn opened(alloc: Global, schema: Schema, edits: &[Edit]) -> Result<Editor, OpenF
 
 impl Editor {
     /// Opens an editor. Its document has one empty element of the start's name, with id 1 and the selection in it, or no item where there is no
-    /// start. It answers `BadStart` exactly where the schema, or an edit, refuses that document, and `NoMemory`.
-    pub fn open(alloc: Global, parts: Parts) -> Result<Editor, OpenFault>
-        ensures { Opens (started parts.schema parts.start) result }
+    /// start. Each product's converter that the settings name is handed in, and named once. It answers `BadStart` exactly where the schema, or an
+    /// edit, refuses that document, and `NoMemory`.
+    pub fn open<L: Ledger>(
+        alloc: Global,
+        parts: Parts,
+        extensions: Extensions,
+        steps: &mut Steps<L>,
+    ) -> Result<Editor, OpenFault>
+        requires { first_unknown_custom (names_of (givings_of (λ object. gives object) extensions.converters.items)) parts.converters.items ≡ None }
+        ensures { Opens (λ object. gives object) (started (configured (givings_of (λ object. gives object) extensions.converters.items) parts) parts.start) result }
     {
-        let Parts { schema, start } = parts;
+        let Parts {
+            schema,
+            version,
+            start,
+            converters,
+            indexed,
+        } = parts;
         let Ok(edits) = opening(alloc, start) else {
             return Err(OpenFault::NoMemory);
         };
-        opened(alloc, schema, edits.as_slice())
+        let Ok(list) = list_of(alloc, &schema, version, converters, indexed, extensions) else {
+            return Err(OpenFault::NoMemory);
+        };
+        opened(alloc, schema, list, edits.as_slice(), steps)
     }
 
     /// Makes a change: its edits in order, and then the test of the schema. It answers `ChangesSpent` exactly where 4,294,967,295 changes were
     /// accepted; `Edit` with the first edit that can't be made; `Schema` with the first breach of the document then; and `NoMemory`. After
     /// each of these the editor is as it was: the document with its markers, its selection and its next id, and the view.
-    pub fn change(&mut self, alloc: Global, edits: &[Edit]) -> Result<(), Refusal>
-        ensures ok { OnOk result (editing.changed edits.now self.old ≡ Ok self.new) }
-        ensures refused { IfErr result (λ refusal. refusal ≢ Refusal.NoMemory → editing.changed edits.now self.old ≡ Err refusal) }
-        ensures err { OnErr result (self.new ≡ self.old) }
+    pub fn change<L: Ledger>(
+        &mut self,
+        alloc: Global,
+        edits: &[Edit],
+        steps: &mut Steps<L>,
+    ) -> Result<(), Refusal>
+        requires { IsCurrent (λ object. gives (object.vtable, object.value)) self.old }
+        ensures current { IsCurrent (λ object. gives (object.vtable, object.value)) self.new }
+        ensures ok { OnOk result (editing.changed edits.now (edited_of (λ object. gives (object.vtable, object.value)) self.old) ≡ Ok (edited_of (λ object. gives (object.vtable, object.value)) self.new)) }
+        ensures refused { IfErr result (λ refusal. refusal ≢ Refusal.NoMemory → editing.changed edits.now (edited_of (λ object. gives (object.vtable, object.value)) self.old) ≡ Err refusal) }
+        ensures err { OnErr result (edited_of (λ object. gives (object.vtable, object.value)) self.new ≡ edited_of (λ object. gives (object.vtable, object.value)) self.old) }
+        ensures view { OnErr result (self.new.view.nodes ≡ self.old.view.nodes) }
     {
         if self.accepted == MOST_CHANGES {
             return Err(Refusal::ChangesSpent);
         }
         self.document.begin_keep()?;
-        match changed(alloc, &mut self.document, &self.schema, edits) {
-            Ok(view) => {
+        match changed(
+            alloc,
+            &mut self.document,
+            &self.schema,
+            &self.list,
+            edits,
+            steps,
+        ) {
+            Ok((view, mapper)) => {
                 self.document.drop_keep();
                 self.view = view;
+                self.mapper = mapper;
                 self.accepted += 1;
                 Ok(())
             }
@@ -169,17 +219,91 @@ impl Editor {
         }
     }
 
+    /// Selects from the position that one place of the view means to the one that another means: backward where the focus's is before the anchor's.
+    /// It answers `ChangesSpent` as `change` does; `NotInView` with the anchor, else with the focus, where it isn't there or isn't in the content of
+    /// the root or of a slot; then as a change with this one edit. After each of these the editor is as it was. (After `convertSelectionChange`
+    /// of CKEditor 5.)
+    pub fn select_view<L: Ledger>(
+        &mut self,
+        alloc: Global,
+        anchor: &ViewPlace,
+        focus: &ViewPlace,
+        steps: &mut Steps<L>,
+    ) -> Result<(), Refusal>
+        requires { IsCurrent (λ object. gives (object.vtable, object.value)) self.old }
+        ensures current { IsCurrent (λ object. gives (object.vtable, object.value)) self.new }
+        ensures ok { OnOk result (editing.view_selected (anchor.now.path ++ anchor.now.offset ∷ []) (focus.now.path ++ focus.now.offset ∷ []) (edited_of (λ object. gives (object.vtable, object.value)) self.old)
+            ≡ Ok (edited_of (λ object. gives (object.vtable, object.value)) self.new)) }
+        ensures refused { IfErr result (λ refusal. refusal ≢ Refusal.NoMemory
+            → editing.view_selected (anchor.now.path ++ anchor.now.offset ∷ []) (focus.now.path ++ focus.now.offset ∷ []) (edited_of (λ object. gives (object.vtable, object.value)) self.old) ≡ Err refusal) }
+        ensures err { OnErr result (edited_of (λ object. gives (object.vtable, object.value)) self.new ≡ edited_of (λ object. gives (object.vtable, object.value)) self.old) }
+    {
+        if self.accepted == MOST_CHANGES {
+            return Err(Refusal::ChangesSpent);
+        }
+        let edits = self.view_edits(alloc, anchor, focus)?;
+        self.change(alloc, edits.as_slice(), steps)
+    }
+
+    /// The edits that select by two places of the view, or the refusal of one.
+    fn view_edits(
+        &self,
+        alloc: Global,
+        anchor: &ViewPlace,
+        focus: &ViewPlace,
+    ) -> Result<Vec<Edit>, Refusal>
+        requires { IsCurrent (λ object. gives (object.vtable, object.value)) self.now }
+        ensures ok { IfOk result (λ edits. selecting (conversion_of (λ object. gives (object.vtable, object.value)) self.now.list) self.now.document.state.document (anchor.now.path ++ anchor.now.offset ∷ []) (focus.now.path ++ focus.now.offset ∷ []) ≡ Ok edits.items) }
+        ensures refused { IfErr result (λ refusal. refusal ≢ Refusal.NoMemory
+            → selecting (conversion_of (λ object. gives (object.vtable, object.value)) self.now.list) self.now.document.state.document (anchor.now.path ++ anchor.now.offset ∷ []) (focus.now.path ++ focus.now.offset ∷ []) ≡ Err refusal) }
+    {
+        let _tree = self.document.tree();
+        let start = position_of(alloc, &self.mapper, &self.view, anchor)?;
+        let end = position_of(alloc, &self.mapper, &self.view, focus)?;
+        let mut edits = Vec::new(alloc);
+        edits.push(select_from(start, end))?;
+        Ok(edits)
+    }
+
     /// Its document. It takes no memory.
     pub fn document(&self) -> &Document
-        ensures { result.now.state ≡ self.now.state }
+        ensures { result.now.state ≡ state_in self.now }
     {
         &self.document
     }
 
     /// The view of its document. It takes no memory.
     pub fn view(&self) -> &View
-        ensures { result.now.nodes ≡ shown self.now.state.document.items }
+        requires { IsCurrent (λ object. gives (object.vtable, object.value)) self.now }
+        ensures { content result.now.nodes ≡ downcast (config_in (λ object. gives (object.vtable, object.value)) self.now).conversion (state_in self.now).document }
     {
         &self.view
+    }
+
+    /// The number of the view element of an element of its document: None exactly where no element of the document has the id. No two elements have
+    /// one number. It takes no memory.
+    pub fn view_number(&self, id: ElementId) -> Option<ViewNumber>
+        requires { IsCurrent (λ object. gives (object.vtable, object.value)) self.now }
+        ensures number { result ≡ numbers_in self.now id }
+        ensures numbered { AreNumbered (numbers_in self.now) (ids_of (state_in self.now).document.items) }
+    {
+        self.mapper.number(id)
+    }
+
+    /// Where the view shows the start and the end of the selection. It answers `NoMemory` alone beside Ok.
+    pub fn shown_selection(&self, alloc: Global) -> Result<(ViewPlace, ViewPlace), NoMemory>
+        requires { IsCurrent (λ object. gives (object.vtable, object.value)) self.now }
+        ensures start { IfOk result (λ both. both.0.path ++ both.0.offset ∷ []
+            ≡ seen (config_in (λ object. gives (object.vtable, object.value)) self.now).conversion (state_in self.now).document
+            (state_in self.now).document.selection.range.start) }
+        ensures end { IfOk result (λ both. both.1.path ++ both.1.offset ∷ []
+            ≡ seen (config_in (λ object. gives (object.vtable, object.value)) self.now).conversion (state_in self.now).document
+            (state_in self.now).document.selection.range.end) }
+    {
+        let _tree = self.document.tree();
+        let range = self.document.selection().range();
+        let start = self.mapper.to_view(alloc, &self.view, range.start())?;
+        let end = self.mapper.to_view(alloc, &self.view, range.end())?;
+        Ok((start, end))
     }
 }

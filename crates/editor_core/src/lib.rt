@@ -1,8 +1,11 @@
-//! The editor: a document with its schema and its view, changed as a whole or not at all.
+//! The editor: a document with its schema, its converters and its view, changed as a whole or not at all.
 #![tactic(auto)]
 
 mod changing;
 pub mod editor;
-mod plain;
+pub mod extensions;
+mod listing;
+mod selecting;
 
 pub use editor::{Editor, OpenFault, Parts};
+pub use extensions::{Extensions, NamedConverter};

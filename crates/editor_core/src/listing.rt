@@ -1,0 +1,107 @@
+//! From the converters of settings to the list of an editor.
+ghost use Rattle.std.specs.Prelude.{◌≡◌, ◌<◌, ◌==◌, ℕ, List, [], map, length, false, None, IfOk, IfSome, OnOk, option_map};
+ghost use Rattle.std.specs.Str.{bytes_eq};
+ghost use Rattle.converter_read.specs.PlanNames.{is_custom, first_unknown_custom};
+ghost use Rattle.schema_definitions.specs.Allowed.{inline_objects};
+ghost use Rattle.conv_rules.specs.Listed.{added, listed_of, conversion_of};
+ghost use Rattle.program_definitions.specs.Converters.{giving_of, converter_of, all_added, names_of};
+ghost use Rattle.editor_core.specs.HandedIn.{givings_of, place_from, IsThere};
+
+use crate::extensions::{Extensions, NamedConverter};
+use ck_base::NoMemory;
+use ck_base::name::Name;
+use conv_rules::converter::Converter;
+use conv_rules::list::{ConverterList, Entry};
+use converter_read::plan::{ConverterPlan, PlanEntry};
+use schema_rules::schema::Schema;
+use std::alloc::Global;
+
+/// The place of the first converter of a name: None exactly where there is none.
+fn place_of(converters: &[NamedConverter], name: &Name) -> Option<usize>
+    ensures place { result ≡ place_from 0 name.now converters.now }
+    ensures inside { IfSome result (λ place. place < length converters.now) }
+{
+    for (place, converter) in converters.iter().enumerate() {
+        if converter.name.as_str() == name.as_str() {
+            return Some(place);
+        }
+    }
+    None
+}
+
+/// Takes the first converter of a name out: None exactly where there is none.
+fn take_named(converters: &mut Vec<NamedConverter>, name: &Name) -> Option<Box<dyn Converter>>
+    ensures object { option_map (λ object. gives object) result ≡ giving_of (givings_of (λ object. gives object) converters.old.items) name.now }
+    ensures others { (other : List ℕ) → bytes_eq name.now other ≡ false
+        → giving_of (givings_of (λ object. gives object) converters.new.items) other ≡ giving_of (givings_of (λ object. gives object) converters.old.items) other }
+{
+    match place_of(converters.as_slice(), name) {
+        Some(place) => Some(converters.remove(place).object),
+        None => None,
+    }
+}
+
+/// Adds a converter of the settings; a product's one is taken out of those that are handed in.
+fn add_plan(
+    list: &mut ConverterList,
+    plan: ConverterPlan,
+    converters: &mut Vec<NamedConverter>,
+) -> Result<(), NoMemory>
+    requires { IsThere plan.entry (givings_of (λ object. gives object) converters.old.items) }
+    ensures ok { OnOk result (listed_of (λ object. gives object) list.new
+        ≡ added (plan.priority, converter_of (givings_of (λ object. gives object) converters.old.items) plan.entry) (listed_of (λ object. gives object) list.old)) }
+    ensures rest { record (conversion_of (λ object. gives object) list.new) { converters = [] } ≡ record (conversion_of (λ object. gives object) list.old) { converters = [] } }
+    ensures others { (other : List ℕ) → is_custom plan.entry other ≡ false
+        → giving_of (givings_of (λ object. gives object) converters.new.items) other ≡ giving_of (givings_of (λ object. gives object) converters.old.items) other }
+{
+    let ConverterPlan { priority, entry } = plan;
+    match entry {
+        PlanEntry::Stock(converter) => list.add(priority, Entry::Stock(converter)),
+        PlanEntry::Boxed { name, .. } => match take_named(converters, &name) {
+            Some(object) => list.add(priority, Entry::Boxed { name, object }),
+            None => unreachable!(),
+        },
+    }
+}
+
+/// A list with the converters of the settings as well, in their order.
+fn with_plans(
+    list: ConverterList,
+    plans: Vec<ConverterPlan>,
+    converters: Vec<NamedConverter>,
+) -> Result<ConverterList, NoMemory>
+    requires { first_unknown_custom (names_of (givings_of (λ object. gives object) converters.items)) plans.items ≡ None }
+    ensures converters { IfOk result (λ made. listed_of (λ object. gives object) made
+        ≡ all_added (givings_of (λ object. gives object) converters.items) (listed_of (λ object. gives object) list) plans.items) }
+    ensures rest { IfOk result (λ made. record (conversion_of (λ object. gives object) made) { converters = [] } ≡ record (conversion_of (λ object. gives object) list) { converters = [] }) }
+{
+    let mut list = list;
+    let mut converters = converters;
+    for plan in plans {
+        add_plan(&mut list, plan, &mut converters)?;
+    }
+    Ok(list)
+}
+
+/// The list of an editor of a schema, from the converters of settings of a version, where these converters are handed in.
+pub fn list_of(
+    alloc: Global,
+    schema: &Schema,
+    version: u32,
+    plans: Vec<ConverterPlan>,
+    indexed: Vec<Name>,
+    extensions: Extensions,
+) -> Result<ConverterList, NoMemory>
+    requires { first_unknown_custom (names_of (givings_of (λ object. gives object) extensions.converters.items)) plans.items ≡ None }
+    ensures { IfOk result (λ list. conversion_of (λ object. gives object) list
+        ≡ record {
+          converters = map (λ entry. entry.1) (all_added (givings_of (λ object. gives object) extensions.converters.items) [] plans.items);
+          objects = inline_objects schema.now;
+          joined = version == 2;
+          indexed = indexed.items;
+        }) }
+{
+    let objects = schema.inline_objects()?;
+    let list = ConverterList::new(alloc, objects, version == 2, indexed);
+    with_plans(list, plans, extensions.converters)
+}
