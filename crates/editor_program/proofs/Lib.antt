@@ -2,4 +2,8 @@ pub mod FirstLine
 pub mod Words
 pub mod Sending
 pub mod Starting
+pub mod Changing
 pub mod Ascii
+pub mod Printed
+pub mod Names
+pub mod Settled

@@ -4,9 +4,8 @@ use Rattle.std.proofs.lemmas.List.{take-append-drop}
 use Rattle.std.specs.Io.KnownBytes.{append_known}
 use Rattle.ck_io.proofs.Written.{append_known-append, append_known-nil}
 use Rattle.machine_definitions.specs.Lines.{lines_of}
-use Rattle.schema_definitions.specs.Allowed.{Rules}
 use Rattle.document_definitions.specs.Document.{State}
-use Rattle.program_definitions.specs.Machine.{answer, answers}
+use Rattle.program_definitions.specs.Machine.{Config, answer, answers}
 use Rattle.editor_program.specs.Sent.{SendsUpTo, SendsFront}
 
 -- nothing was written yet
@@ -37,42 +36,42 @@ pub sends_all : (old new : Option (List ℕ)) (all : List ℕ) → SendsUpTo old
 sends_all old new all h = h.1 ∙ ap (append_known old) (sym (append_nil h.0) ∙ h.2)
 
 -- the answers to the lines of a text, from its first line on
-pub answers_next : (rules : Rules) (state : State) (number : ℕ) (text line rest : List ℕ) → lines_of text ≡ line ∷ lines_of rest → answers rules state number (lines_of text) ≡ (answer rules state number line).text ++ answers rules (answer rules state number line).state (number + 1) (lines_of rest)
+pub answers_next : (config : Config) (state : State) (number : ℕ) (text line rest : List ℕ) → lines_of text ≡ line ∷ lines_of rest → answers config state number (lines_of text) ≡ (answer config state number line).text ++ answers config (answer config state number line).state (number + 1) (lines_of rest)
 unfolding answers
-answers_next rules state number text line rest e = ap (answers rules state number) e
+answers_next config state number text line rest e = ap (answers config state number) e
 
 -- the first bytes of a text were written
 pub front_of : (old new : Option (List ℕ)) (all : List ℕ) (count : ℕ) → new ≡ append_known old (take count all) → SendsFront old new all
 front_of old new all count e = (drop count all, (take count all, e, take-append-drop count all))
 
 -- the answer to the next line was written
-pub sends_answer : (old mid new : Option (List ℕ)) (all : List ℕ) (rules : Rules) (state : State) (number : ℕ) (text line rest bytes : List ℕ)
-    → lines_of text ≡ line ∷ lines_of rest → SendsUpTo old mid all (answers rules state number (lines_of text))
-    → bytes ≡ (answer rules state number line).text → new ≡ append_known mid bytes
-    → SendsUpTo old new all (answers rules (answer rules state number line).state (number + 1) (lines_of rest))
-sends_answer old mid new all rules state number text line rest bytes split sends same grew =
-    let later = answers rules (answer rules state number line).state (number + 1) (lines_of rest) in
-    sends_piece old mid new all (answer rules state number line).text later
-    (subst (SendsUpTo old mid all) (answers_next rules state number text line rest split) sends)
+pub sends_answer : (old mid new : Option (List ℕ)) (all : List ℕ) (config : Config) (state : State) (number : ℕ) (text line rest bytes : List ℕ)
+    → lines_of text ≡ line ∷ lines_of rest → SendsUpTo old mid all (answers config state number (lines_of text))
+    → bytes ≡ (answer config state number line).text → new ≡ append_known mid bytes
+    → SendsUpTo old new all (answers config (answer config state number line).state (number + 1) (lines_of rest))
+sends_answer old mid new all config state number text line rest bytes split sends same grew =
+    let later = answers config (answer config state number line).state (number + 1) (lines_of rest) in
+    sends_piece old mid new all (answer config state number line).text later
+    (subst (SendsUpTo old mid all) (answers_next config state number text line rest split) sends)
     (grew ∙ ap (append_known mid) same)
 
 -- a front of the answer to the next line was written
-pub sends_part_of_answer : (old mid new : Option (List ℕ)) (all : List ℕ) (rules : Rules) (state : State) (number : ℕ) (text line rest bytes : List ℕ) (count : ℕ)
-    → lines_of text ≡ line ∷ lines_of rest → SendsUpTo old mid all (answers rules state number (lines_of text))
-    → bytes ≡ (answer rules state number line).text → new ≡ append_known mid (take count bytes)
+pub sends_part_of_answer : (old mid new : Option (List ℕ)) (all : List ℕ) (config : Config) (state : State) (number : ℕ) (text line rest bytes : List ℕ) (count : ℕ)
+    → lines_of text ≡ line ∷ lines_of rest → SendsUpTo old mid all (answers config state number (lines_of text))
+    → bytes ≡ (answer config state number line).text → new ≡ append_known mid (take count bytes)
     → SendsFront old new all
-sends_part_of_answer old mid new all rules state number text line rest bytes count split sends same grew =
-    let later = answers rules (answer rules state number line).state (number + 1) (lines_of rest) in
-    sends_part old mid new all (answer rules state number line).text later count
-    (subst (SendsUpTo old mid all) (answers_next rules state number text line rest split) sends)
+sends_part_of_answer old mid new all config state number text line rest bytes count split sends same grew =
+    let later = answers config (answer config state number line).state (number + 1) (lines_of rest) in
+    sends_part old mid new all (answer config state number line).text later count
+    (subst (SendsUpTo old mid all) (answers_next config state number text line rest split) sends)
     (grew ∙ ap (λ xs. append_known mid (take count xs)) same)
 
 -- no line is left
-pub sends_to_end : (old new : Option (List ℕ)) (all : List ℕ) (rules : Rules) (state : State) (number : ℕ) (text : List ℕ)
-    → length text ≡ 0 → SendsUpTo old new all (answers rules state number (lines_of text)) → new ≡ append_known old all
+pub sends_to_end : (old new : Option (List ℕ)) (all : List ℕ) (config : Config) (state : State) (number : ℕ) (text : List ℕ)
+    → length text ≡ 0 → SendsUpTo old new all (answers config state number (lines_of text)) → new ≡ append_known old all
 unfolding answers
-sends_to_end old new all rules state number [] none sends = sends_all old new all sends
-sends_to_end old new all rules state number (b ∷ text) none sends = absurd (omega arith)
+sends_to_end old new all config state number [] none sends = sends_all old new all sends
+sends_to_end old new all config state number (b ∷ text) none sends = absurd (omega arith)
 
 -- nothing was written, whatever is held
 pub sends_nothing : {Held : Type 0} (known : Option (List ℕ)) (holds : Option Held) (all : Held → List ℕ) → IfSome holds (λ held. SendsFront known known (all held))

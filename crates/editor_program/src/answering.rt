@@ -1,19 +1,22 @@
 //! The answer to one line of a script.
-ghost use Rattle.std.specs.Prelude.{◌≡◌, ◌<◌, ◌≤◌, ◌+◌, IfOk, OnOk, string_bytes};
-ghost use Rattle.editor_core.specs.Edited.{most_changes};
-ghost use Rattle.program_definitions.specs.Machine.{answer, changed, refusal_of};
+ghost use Rattle.std.specs.Prelude.{◌≡◌, ◌<◌, ◌≤◌, ◌+◌, ◌++◌, ◌∷◌, [], IfOk, OnOk, string_bytes};
+ghost use Rattle.editor_core.specs.Edited.{most_changes, config_in, state_in, accepted_in, IsCurrent};
+ghost use Rattle.program_definitions.specs.Machine.{answer, changed, stepped, refusal_of};
+ghost use Rattle.program_definitions.specs.Selecting.{selecting};
 ghost use Rattle.step_definitions.specs.Step.{step};
 
 use crate::lines::is_blank;
 use crate::printing::{accepted_line, refused_line, shown_lines};
 use ck_base::NoMemory;
 use ck_base::faults::Refusal;
+use ck_base::steps::{Ledger, Steps};
 use edit_definitions::edit::Edit;
 use editor_core::Editor;
 use json_forms::fault::FormFault;
 use script_definitions::request::Request;
 use script_read::request::read_request;
 use std::alloc::Global;
+use view_tree::path::ViewPlace;
 
 /// The refusal of a line that has no request.
 fn refusal_of(fault: FormFault) -> Refusal
@@ -27,19 +30,47 @@ fn refusal_of(fault: FormFault) -> Refusal
 }
 
 /// The answer to a change. It answers `NoMemory` alone beside Ok.
-fn answer_change(
+fn answer_change<L: Ledger>(
     alloc: Global,
     editor: &mut Editor,
     number: u64,
     edits: &[Edit],
+    steps: &mut Steps<L>,
 ) -> Result<String, NoMemory>
-    requires { editor.old.accepted < most_changes }
-    ensures text { IfOk result (λ text. string_bytes text ≡ (changed editor.old.state number (step editor.old.rules edits.now editor.old.state)).text) }
-    ensures state { OnOk result (editor.new.state ≡ (changed editor.old.state number (step editor.old.rules edits.now editor.old.state)).state) }
-    ensures rules { OnOk result (editor.new.rules ≡ editor.old.rules) }
-    ensures accepted { OnOk result (editor.new.accepted ≤ editor.old.accepted + 1) }
+    requires few { accepted_in editor.old < most_changes }
+    requires current { IsCurrent (λ object. gives (object.vtable, object.value)) editor.old }
+    ensures text { IfOk result (λ text. string_bytes text ≡ (changed (state_in editor.old) number (step (config_in (λ object. gives (object.vtable, object.value)) editor.old).rules edits.now (state_in editor.old))).text) }
+    ensures state { OnOk result (state_in editor.new ≡ (changed (state_in editor.old) number (step (config_in (λ object. gives (object.vtable, object.value)) editor.old).rules edits.now (state_in editor.old))).state) }
+    ensures config { OnOk result (config_in (λ object. gives (object.vtable, object.value)) editor.new ≡ config_in (λ object. gives (object.vtable, object.value)) editor.old) }
+    ensures accepted { OnOk result (accepted_in editor.new ≤ accepted_in editor.old + 1) }
+    ensures current { IsCurrent (λ object. gives (object.vtable, object.value)) editor.new }
 {
-    match editor.change(alloc, edits) {
+    match editor.change(alloc, edits, steps) {
+        Ok(()) => accepted_line(alloc, number),
+        Err(refusal) => refused_line(alloc, number, refusal),
+    }
+}
+
+/// The answer to a selection by two places of the view. It answers `NoMemory` alone beside Ok.
+fn answer_selection<L: Ledger>(
+    alloc: Global,
+    editor: &mut Editor,
+    number: u64,
+    anchor: &ViewPlace,
+    focus: &ViewPlace,
+    steps: &mut Steps<L>,
+) -> Result<String, NoMemory>
+    requires few { accepted_in editor.old < most_changes }
+    requires current { IsCurrent (λ object. gives (object.vtable, object.value)) editor.old }
+    ensures text { IfOk result (λ text. string_bytes text ≡ (changed (state_in editor.old) number (stepped (config_in (λ object. gives (object.vtable, object.value)) editor.old).rules (state_in editor.old)
+        (selecting (config_in (λ object. gives (object.vtable, object.value)) editor.old).conversion (state_in editor.old).document (anchor.now.path ++ anchor.now.offset ∷ []) (focus.now.path ++ focus.now.offset ∷ [])))).text) }
+    ensures state { OnOk result (state_in editor.new ≡ (changed (state_in editor.old) number (stepped (config_in (λ object. gives (object.vtable, object.value)) editor.old).rules (state_in editor.old)
+        (selecting (config_in (λ object. gives (object.vtable, object.value)) editor.old).conversion (state_in editor.old).document (anchor.now.path ++ anchor.now.offset ∷ []) (focus.now.path ++ focus.now.offset ∷ [])))).state) }
+    ensures config { OnOk result (config_in (λ object. gives (object.vtable, object.value)) editor.new ≡ config_in (λ object. gives (object.vtable, object.value)) editor.old) }
+    ensures accepted { OnOk result (accepted_in editor.new ≤ accepted_in editor.old + 1) }
+    ensures current { IsCurrent (λ object. gives (object.vtable, object.value)) editor.new }
+{
+    match editor.select_view(alloc, anchor, focus, steps) {
         Ok(()) => accepted_line(alloc, number),
         Err(refusal) => refused_line(alloc, number, refusal),
     }
@@ -47,24 +78,32 @@ fn answer_change(
 
 /// The answer to a script line of this number: the lines to write, none for a blank line. It answers `NoMemory` alone beside Ok.
 #[tactic(auto, unfolding(program_definitions::specs::Machine::answer))]
-pub fn answer(
+pub fn answer<L: Ledger>(
     alloc: Global,
     editor: &mut Editor,
     number: u64,
     line: &[u8],
+    steps: &mut Steps<L>,
 ) -> Result<String, NoMemory>
-    requires { editor.old.accepted < most_changes }
-    ensures text { IfOk result (λ text. string_bytes text ≡ (answer editor.old.rules editor.old.state number line.now).text) }
-    ensures state { OnOk result (editor.new.state ≡ (answer editor.old.rules editor.old.state number line.now).state) }
-    ensures rules { OnOk result (editor.new.rules ≡ editor.old.rules) }
-    ensures accepted { OnOk result (editor.new.accepted ≤ editor.old.accepted + 1) }
+    requires few { accepted_in editor.old < most_changes }
+    requires current { IsCurrent (λ object. gives (object.vtable, object.value)) editor.old }
+    ensures text { IfOk result (λ text. string_bytes text ≡ (answer (config_in (λ object. gives (object.vtable, object.value)) editor.old) (state_in editor.old) number line.now).text) }
+    ensures state { OnOk result (state_in editor.new ≡ (answer (config_in (λ object. gives (object.vtable, object.value)) editor.old) (state_in editor.old) number line.now).state) }
+    ensures config { OnOk result (config_in (λ object. gives (object.vtable, object.value)) editor.new ≡ config_in (λ object. gives (object.vtable, object.value)) editor.old) }
+    ensures accepted { OnOk result (accepted_in editor.new ≤ accepted_in editor.old + 1) }
+    ensures current { IsCurrent (λ object. gives (object.vtable, object.value)) editor.new }
 {
     if is_blank(line) {
         return Ok(String::new(alloc));
     }
     match read_request(alloc, line) {
-        Ok(Request::Change(edits)) => answer_change(alloc, editor, number, edits.as_slice()),
-        Ok(Request::Show { .. }) => shown_lines(alloc, number, editor),
+        Ok(Request::Change(edits)) => {
+            answer_change(alloc, editor, number, edits.as_slice(), steps)
+        }
+        Ok(Request::SelectView { anchor, focus }) => {
+            answer_selection(alloc, editor, number, &anchor, &focus, steps)
+        }
+        Ok(Request::Show { selection }) => shown_lines(alloc, number, selection, editor),
         Err(fault) => refused_line(alloc, number, refusal_of(fault)),
     }
 }

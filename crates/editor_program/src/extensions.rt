@@ -25,8 +25,8 @@ use converter_definitions::kind::ShapeKind;
 use converter_definitions::shape::{Shape, ShapeNode, ShapeNodes};
 use std::alloc::{AllocError, Global};
 
-/// The name that a text is.
-fn name_of(alloc: Global, text: &str) -> Result<Name, NoMemory>
+/// The name that a text is. It answers `NoMemory` alone beside Ok.
+pub fn name_of(alloc: Global, text: &str) -> Result<Name, NoMemory>
     requires { is_name text.now ≡ true }
     ensures { IfOk result (λ name. name ≡ text.now) }
 {

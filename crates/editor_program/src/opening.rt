@@ -1,19 +1,27 @@
 //! From a settings file to an editor.
 ghost use Rattle.std.specs.Prelude.{◌≡◌, ◌≢◌, IfOk, IfErr, IfSome, OnOk};
 ghost use Rattle.ck_io.specs.Rose.{Rose};
-ghost use Rattle.schema_definitions.specs.Allowed.{Rules};
 ghost use Rattle.document_definitions.specs.Document.{State};
 ghost use Rattle.settings_definitions.specs.Settings.{settings_of};
 ghost use Rattle.step_definitions.specs.Step.{opened};
-ghost use Rattle.program_definitions.specs.Output.{Outcome, handed_in, refused, refused_settings, refused_start, settings_outcome, settled_outcome, started};
+ghost use Rattle.editor_core.specs.Edited.{config_in, state_in, accepted_in, IsCurrent};
+ghost use Rattle.editor_core.specs.HandedIn.{givings_of};
+ghost use Rattle.config_read.specs.Refused.{settings_view};
+ghost use Rattle.converter_read.specs.PlanNames.{first_unknown_custom};
+ghost use Rattle.program_definitions.specs.Converters.{names_of};
+ghost use Rattle.program_definitions.specs.Machine.{Config};
+ghost use Rattle.program_definitions.specs.Output.{Outcome, refused, refused_settings, refused_start, config_of, settings_outcome, settled_outcome, started};
 ghost use Rattle.editor_program.specs.Ends.{IsNotHeld};
 ghost use Rattle.editor_program.specs.Unopened.{IsEnd, Opens};
 
 use crate::printing::{refused_settings, refused_start};
+use ck_base::NoMemory;
 use ck_base::faults::Refusal;
+use ck_base::name::Name;
+use ck_base::steps::{Ledger, Steps};
 use ck_io::{FetchFault, Files};
 use config_read::settings::{Settings, read_settings};
-use editor_core::{Editor, OpenFault, Parts};
+use editor_core::{Editor, Extensions, NamedConverter, OpenFault, Parts};
 use settings_definitions::fault::SettingsFault;
 use std::alloc::Global;
 
@@ -56,46 +64,92 @@ fn start_end(alloc: Global, refusal: Refusal) -> Unopened
 }
 
 /// The editor of settings.
-fn editor_of(alloc: Global, settings: Settings) -> Result<Editor, Unopened>
-    ensures opens { Opens (λ next. started next settings.schema (opened settings.schema settings.start)) result }
-    ensures fresh { IfOk result (λ editor. editor.accepted ≡ 0) }
+fn editor_of<L: Ledger>(
+    alloc: Global,
+    settings: Settings,
+    extensions: Extensions,
+    steps: &mut Steps<L>,
+) -> Result<Editor, Unopened>
+    requires { first_unknown_custom (names_of (givings_of (λ object. gives (object.vtable, object.value)) extensions.converters.items)) settings.converters.items ≡ None }
+    ensures opens { Opens (λ object. gives (object.vtable, object.value)) (λ next. started next (config_of (givings_of (λ object. gives (object.vtable, object.value)) extensions.converters.items) (settings_view settings)) (opened settings.schema settings.start)) result }
+    ensures fresh { IfOk result (λ editor. accepted_in editor ≡ 0) }
     ensures read { IfErr result (λ fault. fault ≢ Unopened.NotFetched) }
 {
-    let Settings { schema, start, .. } = settings;
-    match Editor::open(alloc, Parts { schema, start }) {
+    let Settings {
+        schema,
+        version,
+        start,
+        converters,
+        indexed,
+        ..
+    } = settings;
+    let parts = Parts {
+        schema,
+        version,
+        start,
+        converters,
+        indexed,
+    };
+    match Editor::open(alloc, parts, extensions, steps) {
         Ok(editor) => Ok(editor),
         Err(OpenFault::BadStart(refusal)) => Err(start_end(alloc, refusal)),
         Err(OpenFault::NoMemory) => Err(Unopened::NoMemory),
     }
 }
 
+/// The names of converters.
+fn names_of(alloc: Global, converters: &[NamedConverter]) -> Result<Vec<Name>, NoMemory>
+    ensures { IfOk result (λ names. names.items ≡ names_of (givings_of (λ object. gives (object.vtable, object.value)) converters.now)) }
+{
+    let mut names = Vec::with_capacity(alloc, converters.len())?;
+    for named in converters {
+        names.push(named.name.copy()?)?;
+    }
+    Ok(names)
+}
+
 /// The editor of the bytes of a settings file.
-fn editor_from(alloc: Global, bytes: &[u8]) -> Result<Editor, Unopened>
-    ensures opens { Opens (λ next. settled_outcome next (settings_of handed_in bytes.now)) result }
-    ensures fresh { IfOk result (λ editor. editor.accepted ≡ 0) }
+fn editor_from<L: Ledger>(
+    alloc: Global,
+    bytes: &[u8],
+    extensions: Extensions,
+    steps: &mut Steps<L>,
+) -> Result<Editor, Unopened>
+    ensures opens { Opens (λ object. gives (object.vtable, object.value)) (λ next. settled_outcome (givings_of (λ object. gives (object.vtable, object.value)) extensions.converters.items) next (settings_of (names_of (givings_of (λ object. gives (object.vtable, object.value)) extensions.converters.items)) bytes.now)) result }
+    ensures fresh { IfOk result (λ editor. accepted_in editor ≡ 0) }
     ensures read { IfErr result (λ fault. fault ≢ Unopened.NotFetched) }
 {
-    match read_settings(alloc, bytes, &[]) {
-        Ok(settings) => editor_of(alloc, settings),
+    let Ok(names) = names_of(alloc, extensions.converters.as_slice()) else {
+        return Err(Unopened::NoMemory);
+    };
+    match read_settings(alloc, bytes, names.as_slice()) {
+        Ok(settings) => editor_of(alloc, settings, extensions, steps),
         Err(fault) => Err(settings_end(alloc, fault)),
     }
 }
 
 /// Opens the editor of the settings file of a name.
-pub fn open_settings<F: Files>(alloc: Global, name: &str, files: &mut F) -> Result<Editor, Unopened>
-    ensures ok { IfOk result (λ editor. IfSome (F.holds files.old) (λ held. (next : Rules → State → Outcome)
-        → settings_outcome next (held name.now) ≡ next editor.rules editor.state)) }
-    ensures fresh { IfOk result (λ editor. editor.accepted ≡ 0) }
+pub fn open_settings<F: Files, L: Ledger>(
+    alloc: Global,
+    name: &str,
+    files: &mut F,
+    extensions: Extensions,
+    steps: &mut Steps<L>,
+) -> Result<Editor, Unopened>
+    ensures ok { IfOk result (λ editor. IfSome (F.holds files.old) (λ held. (next : Config → State → Outcome)
+        → settings_outcome (givings_of (λ object. gives (object.vtable, object.value)) extensions.converters.items) next (held name.now) ≡ next (config_in (λ object. gives (object.vtable, object.value)) editor) (state_in editor))) }
+    ensures fresh { IfOk result (λ editor. accepted_in editor ≡ 0) }
+    ensures current { IfOk result (λ editor. IsCurrent (λ object. gives (object.vtable, object.value)) editor) }
     ensures err { IfErr result (λ fault. IfSome (F.holds files.old) (λ held.
         (fault ≡ Unopened.NotFetched → ¬ Rose (F.faults files.old) (F.faults files.new))
-        → (next : Rules → State → Outcome) → IsEnd fault (settings_outcome next (held name.now)))) }
+        → (next : Config → State → Outcome) → IsEnd fault (settings_outcome (givings_of (λ object. gives (object.vtable, object.value)) extensions.converters.items) next (held name.now)))) }
     ensures missing { IfErr result (λ fault. fault ≡ Unopened.NotFetched → ¬ Rose (F.faults files.old) (F.faults files.new)
         → IsNotHeld (F.holds files.old) name.now) }
     ensures holds { F.holds files.new ≡ F.holds files.old }
     ensures calm { OnOk result (F.faults files.new ≡ F.faults files.old) }
 {
     match files.fetch(alloc, name, MOST_SETTINGS_BYTES) {
-        Ok(bytes) => editor_from(alloc, bytes.as_slice()),
+        Ok(bytes) => editor_from(alloc, bytes.as_slice(), extensions, steps),
         Err(FetchFault::NoMemory) => Err(Unopened::NoMemory),
         Err(FetchFault::TooLarge) => Err(Unopened::TooLarge),
         Err(FetchFault::Missing | FetchFault::Failed) => Err(Unopened::NotFetched),

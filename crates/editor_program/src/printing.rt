@@ -1,14 +1,21 @@
 //! The printed texts of answers.
-ghost use Rattle.std.specs.Prelude.{◌≡◌, ◌≢◌, IfOk, OnOk, string_bytes};
-ghost use Rattle.program_definitions.specs.Machine.{accepted_line, refused_line, shown_lines};
+ghost use Rattle.std.specs.Prelude.{◌≡◌, ◌≢◌, ◌++◌, true, false, Some, None, IfOk, OnOk, string_bytes};
+ghost use Rattle.document_definitions.specs.Selection.{attributes};
+ghost use Rattle.downcast_definitions.specs.Rows.{downcast};
+ghost use Rattle.editor_core.specs.Edited.{config_in, state_in, IsCurrent};
+ghost use Rattle.print_definitions.specs.SelectionText.{marker_lines, selection_line};
+ghost use Rattle.print_definitions.specs.ViewText.{view_text};
+ghost use Rattle.program_definitions.specs.Machine.{accepted_line, refused_line, both_lines, seen_ends, shown_lines};
 ghost use Rattle.program_definitions.specs.Output.{refused_settings, refused_start};
 
 use ck_base::NoMemory;
 use ck_base::faults::Refusal;
 use config_read::texts::settings_text;
 use editor_core::Editor;
+use model_doc::Document;
 use print_text::model::model_text;
 use print_text::refusals::refusal_text;
+use print_text::selection::{marker_lines, selection_line};
 use print_text::view::view_text;
 use settings_definitions::fault::SettingsFault;
 use std::alloc::{AllocError, Global};
@@ -42,14 +49,83 @@ fn line_of_refusal(alloc: Global, number: u64, refusal: &Refusal) -> Result<Stri
     format!(in alloc; "{number} refused {refusal}\n")
 }
 
-/// The answer to a show: the model and the view, each on a line.
-#[tactic(auto, unfolding(program_definitions::specs::Machine::shown_lines))]
-pub fn shown_lines(alloc: Global, number: u64, editor: &Editor) -> Result<String, NoMemory>
-    ensures { IfOk result (λ text. string_bytes text ≡ shown_lines number editor.now.state) }
+/// The model and the view, each on a line.
+#[tactic(auto, unfolding(program_definitions::specs::Machine::both_lines))]
+fn both_lines(alloc: Global, number: u64, model: &str, view: &str) -> Result<String, NoMemory>
+    ensures { IfOk result (λ text. string_bytes text ≡ both_lines number model.now view.now) }
+{
+    format!(in alloc; "{number} model {model}\n{number} view {view}\n")
+}
+
+/// The printed view of a document, without its selection.
+fn plain_view(alloc: Global, editor: &Editor) -> Result<String, NoMemory>
+    requires { IsCurrent (λ object. gives (object.vtable, object.value)) editor.now }
+    ensures { IfOk result (λ text. string_bytes text ≡ view_text None (downcast (config_in (λ object. gives (object.vtable, object.value)) editor.now).conversion (state_in editor.now).document)) }
+{
+    view_text(alloc, editor.view(), None)
+}
+
+/// The printed view of a document, with the marks of its selection.
+fn selected_view(alloc: Global, editor: &Editor) -> Result<String, NoMemory>
+    requires { IsCurrent (λ object. gives (object.vtable, object.value)) editor.now }
+    ensures { IfOk result (λ text. string_bytes text ≡ view_text (Some (seen_ends (config_in (λ object. gives (object.vtable, object.value)) editor.now).conversion (state_in editor.now).document))
+        (downcast (config_in (λ object. gives (object.vtable, object.value)) editor.now).conversion (state_in editor.now).document)) }
+{
+    let places = editor.shown_selection(alloc)?;
+    view_text(alloc, editor.view(), Some(&places))
+}
+
+/// A document without its selection.
+fn plain_lines(alloc: Global, number: u64, editor: &Editor) -> Result<String, NoMemory>
+    requires { IsCurrent (λ object. gives (object.vtable, object.value)) editor.now }
+    ensures { IfOk result (λ text. string_bytes text ≡ shown_lines (config_in (λ object. gives (object.vtable, object.value)) editor.now).conversion number false (state_in editor.now).document) }
 {
     let model = model_text(alloc, editor.document(), false)?;
-    let view = view_text(alloc, editor.view(), None)?;
-    format!(in alloc; "{number} model {model}\n{number} view {view}\n")
+    let view = plain_view(alloc, editor)?;
+    both_lines(alloc, number, model.as_str(), view.as_str())
+}
+
+/// The markers of a document and its selection.
+fn selection_lines(alloc: Global, number: u64, document: &Document) -> Result<String, NoMemory>
+    ensures { IfOk result (λ text. string_bytes text ≡ marker_lines number document.now.state.document.markers
+        ++ selection_line number document.now.state.document.selection.backward (attributes document.now.state.document.items document.now.state.document.selection)) }
+{
+    let mut lines = marker_lines(alloc, number, document.markers())?;
+    let selection = document.selection();
+    let attributes = selection.attributes(alloc, document.tree())?;
+    let last = selection_line(alloc, number, selection.is_backward(), &attributes)?;
+    lines.push_str(last.as_str())?;
+    Ok(lines)
+}
+
+/// A document with its selection: its marks in the model and in the view, and behind them the markers and the selection.
+fn selected_lines(alloc: Global, number: u64, editor: &Editor) -> Result<String, NoMemory>
+    requires { IsCurrent (λ object. gives (object.vtable, object.value)) editor.now }
+    ensures { IfOk result (λ text. string_bytes text ≡ shown_lines (config_in (λ object. gives (object.vtable, object.value)) editor.now).conversion number true (state_in editor.now).document) }
+{
+    let model = model_text(alloc, editor.document(), true)?;
+    let view = selected_view(alloc, editor)?;
+    let mut lines = both_lines(alloc, number, model.as_str(), view.as_str())?;
+    let more = selection_lines(alloc, number, editor.document())?;
+    lines.push_str(more.as_str())?;
+    Ok(lines)
+}
+
+/// The answer to a show, with the selection or without. It answers `NoMemory` alone beside Ok.
+pub fn shown_lines(
+    alloc: Global,
+    number: u64,
+    selection: bool,
+    editor: &Editor,
+) -> Result<String, NoMemory>
+    requires { IsCurrent (λ object. gives (object.vtable, object.value)) editor.now }
+    ensures { IfOk result (λ text. string_bytes text ≡ shown_lines (config_in (λ object. gives (object.vtable, object.value)) editor.now).conversion number selection (state_in editor.now).document) }
+{
+    if selection {
+        selected_lines(alloc, number, editor)
+    } else {
+        plain_lines(alloc, number, editor)
+    }
 }
 
 /// What is written where settings are refused. A fault for want of memory has no text: it is passed on.

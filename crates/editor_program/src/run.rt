@@ -2,7 +2,8 @@
 ghost use Rattle.std.specs.Prelude.{◌≡◌, ◌≢◌, ◌<◌, ◌≤◌, ◌+◌, ◌⊎◌, true, false, None, map, string_bytes, length, IfErr, IfSome, OnOk};
 ghost use Rattle.std.specs.Io.KnownBytes.{append_known};
 ghost use Rattle.ck_io.specs.Rose.{Rose};
-ghost use Rattle.editor_core.specs.Edited.{most_changes};
+ghost use Rattle.editor_core.specs.Edited.{most_changes, config_in, state_in, accepted_in, IsCurrent};
+ghost use Rattle.editor_core.specs.HandedIn.{givings_of};
 ghost use Rattle.editor_program.specs.Sent.{SendsFront};
 ghost use Rattle.editor_program.specs.Ends.{IsOutcome, ShowsUsage, IsNotHeld, IsMissing, IsMissingFor};
 ghost use Rattle.editor_program.specs.Unanswered.{SendsPart, Fails};
@@ -18,8 +19,9 @@ use crate::answering::answer;
 use crate::lines::split_line;
 use crate::opening::{Unopened, open_settings};
 use crate::tasks::{Task, task_of};
+use ck_base::steps::{Ledger, Steps};
 use ck_io::{FetchFault, Files, Sink, WholeFault, write_whole};
-use editor_core::Editor;
+use editor_core::{Editor, Extensions};
 use std::alloc::Global;
 
 /// How a run ends.
@@ -83,25 +85,28 @@ enum Unanswered {
 }
 
 /// Answers one line, in one piece.
-fn answer_line<S: Sink>(
+fn answer_line<S: Sink, L: Ledger>(
     alloc: Global,
     editor: &mut Editor,
     number: u64,
     line: &[u8],
     out: &mut S,
+    steps: &mut Steps<L>,
 ) -> Result<(), Unanswered>
-    requires { editor.old.accepted < most_changes }
+    requires few { accepted_in editor.old < most_changes }
+    requires current { IsCurrent (λ object. gives (object.vtable, object.value)) editor.old }
     ensures written { OnOk result (S.written out.new
-        ≡ append_known (S.written out.old) (answer editor.old.rules editor.old.state number line.now).text) }
-    ensures state { OnOk result (editor.new.state ≡ (answer editor.old.rules editor.old.state number line.now).state) }
-    ensures rules { OnOk result (editor.new.rules ≡ editor.old.rules) }
-    ensures accepted { OnOk result (editor.new.accepted ≤ editor.old.accepted + 1) }
+        ≡ append_known (S.written out.old) (answer (config_in (λ object. gives (object.vtable, object.value)) editor.old) (state_in editor.old) number line.now).text) }
+    ensures state { OnOk result (state_in editor.new ≡ (answer (config_in (λ object. gives (object.vtable, object.value)) editor.old) (state_in editor.old) number line.now).state) }
+    ensures config { OnOk result (config_in (λ object. gives (object.vtable, object.value)) editor.new ≡ config_in (λ object. gives (object.vtable, object.value)) editor.old) }
+    ensures accepted { OnOk result (accepted_in editor.new ≤ accepted_in editor.old + 1) }
+    ensures current { IsCurrent (λ object. gives (object.vtable, object.value)) editor.new }
     ensures calm { OnOk result (S.faults out.new ≡ S.faults out.old) }
     ensures part { IfErr result (λ fault.
-        SendsPart fault (S.written out.old) (S.written out.new) (answer editor.old.rules editor.old.state number line.now).text) }
+        SendsPart fault (S.written out.old) (S.written out.new) (answer (config_in (λ object. gives (object.vtable, object.value)) editor.old) (state_in editor.old) number line.now).text) }
     ensures failed { IfErr result (λ fault. Fails fault (S.faults out.old) (S.faults out.new)) }
 {
-    let Ok(text) = answer(alloc, editor, number, line) else {
+    let Ok(text) = answer(alloc, editor, number, line, steps) else {
         return Err(Unanswered::NoMemory);
     };
     match write_whole(out, text.as_bytes()) {
@@ -111,12 +116,19 @@ fn answer_line<S: Sink>(
 }
 
 /// Answers the lines of a script in order, each answer in one piece.
-fn answer_lines<S: Sink>(alloc: Global, editor: &mut Editor, script: &[u8], out: &mut S) -> Status
-    requires fresh { editor.old.accepted ≡ 0 }
+fn answer_lines<S: Sink, L: Ledger>(
+    alloc: Global,
+    editor: &mut Editor,
+    script: &[u8],
+    out: &mut S,
+    steps: &mut Steps<L>,
+) -> Status
+    requires fresh { accepted_in editor.old ≡ 0 }
+    requires current { IsCurrent (λ object. gives (object.vtable, object.value)) editor.old }
     requires short { length script.now ≤ most_script_bytes }
     ensures finished { result ≡ Status.Finished
-        → S.written out.new ≡ append_known (S.written out.old) (answers editor.old.rules editor.old.state 1 (lines_of script.now)) }
-    ensures part { SendsFront (S.written out.old) (S.written out.new) (answers editor.old.rules editor.old.state 1 (lines_of script.now)) }
+        → S.written out.new ≡ append_known (S.written out.old) (answers (config_in (λ object. gives (object.vtable, object.value)) editor.old) (state_in editor.old) 1 (lines_of script.now)) }
+    ensures part { SendsFront (S.written out.old) (S.written out.new) (answers (config_in (λ object. gives (object.vtable, object.value)) editor.old) (state_in editor.old) 1 (lines_of script.now)) }
     ensures failed { result ≡ Status.NotWritten → Rose (S.faults out.old) (S.faults out.new) }
     ensures statuses { (result ≡ Status.Finished) ⊎ (result ≡ Status.NoMemory) ⊎ (result ≡ Status.NotWritten) }
 {
@@ -124,7 +136,7 @@ fn answer_lines<S: Sink>(alloc: Global, editor: &mut Editor, script: &[u8], out:
     let mut rest = script;
     while !rest.is_empty() {
         let (line, after) = split_line(rest);
-        match answer_line(alloc, editor, number, line, out) {
+        match answer_line(alloc, editor, number, line, out, steps) {
             Ok(()) => {}
             Err(Unanswered::NoMemory) => return Status::NoMemory,
             Err(Unanswered::NotWritten(_)) => return Status::NotWritten,
@@ -136,19 +148,21 @@ fn answer_lines<S: Sink>(alloc: Global, editor: &mut Editor, script: &[u8], out:
 }
 
 /// Answers the script of a name.
-fn answer_script<F: Files, S: Sink>(
+fn answer_script<F: Files, S: Sink, L: Ledger>(
     alloc: Global,
     editor: &mut Editor,
     script: &str,
     files: &mut F,
     out: &mut S,
+    steps: &mut Steps<L>,
 ) -> Status
-    requires { editor.old.accepted ≡ 0 }
+    requires fresh { accepted_in editor.old ≡ 0 }
+    requires current { IsCurrent (λ object. gives (object.vtable, object.value)) editor.old }
     ensures output { IfSome (F.holds files.old) (λ held. result ≢ Status.NoMemory → result ≢ Status.NotWritten
         → (result ≡ Status.NotFetched → ¬ Rose (F.faults files.old) (F.faults files.new))
-        → IsOutcome (S.written out.old) (S.written out.new) (status_code result) (script_outcome editor.old.rules editor.old.state (held script.now))) }
+        → IsOutcome (S.written out.old) (S.written out.new) (status_code result) (script_outcome (config_in (λ object. gives (object.vtable, object.value)) editor.old) (state_in editor.old) (held script.now))) }
     ensures part { IfSome (F.holds files.old) (λ held.
-        SendsFront (S.written out.old) (S.written out.new) (script_outcome editor.old.rules editor.old.state (held script.now)).bytes) }
+        SendsFront (S.written out.old) (S.written out.new) (script_outcome (config_in (λ object. gives (object.vtable, object.value)) editor.old) (state_in editor.old) (held script.now)).bytes) }
     ensures not_fetched { result ≡ Status.NotFetched → S.written out.new ≡ S.written out.old }
     ensures missing { result ≡ Status.NotFetched → ¬ Rose (F.faults files.old) (F.faults files.new) → IsNotHeld (F.holds files.old) script.now }
     ensures not_written { result ≡ Status.NotWritten → Rose (S.faults out.old) (S.faults out.new) }
@@ -156,7 +170,7 @@ fn answer_script<F: Files, S: Sink>(
     ensures words { result ≢ Status.BadWords }
 {
     match files.fetch(alloc, script, MOST_SCRIPT_BYTES) {
-        Ok(bytes) => answer_lines(alloc, editor, bytes.as_slice(), out),
+        Ok(bytes) => answer_lines(alloc, editor, bytes.as_slice(), out, steps),
         Err(FetchFault::NoMemory) => Status::NoMemory,
         Err(FetchFault::TooLarge) => Status::TooLarge,
         Err(FetchFault::Missing | FetchFault::Failed) => Status::NotFetched,
@@ -217,19 +231,21 @@ fn show_usage<S: Sink>(out: &mut S) -> Status
 }
 
 /// Does what the words ask for with an opened editor.
-fn go_on<F: Files, S: Sink>(
+fn go_on<F: Files, S: Sink, L: Ledger>(
     alloc: Global,
     editor: &mut Editor,
     task: Task<'_>,
     files: &mut F,
     out: &mut S,
+    steps: &mut Steps<L>,
 ) -> Status
-    requires { editor.old.accepted ≡ 0 }
+    requires fresh { accepted_in editor.old ≡ 0 }
+    requires current { IsCurrent (λ object. gives (object.vtable, object.value)) editor.old }
     ensures output { IfSome (F.holds files.old) (λ held. result ≢ Status.NoMemory → result ≢ Status.NotWritten
         → (result ≡ Status.NotFetched → ¬ Rose (F.faults files.old) (F.faults files.new))
-        → IsOutcome (S.written out.old) (S.written out.new) (status_code result) (done_with held (task_view task.entry) editor.old.rules editor.old.state)) }
+        → IsOutcome (S.written out.old) (S.written out.new) (status_code result) (done_with held (task_view task.entry) (config_in (λ object. gives (object.vtable, object.value)) editor.old) (state_in editor.old))) }
     ensures part { IfSome (F.holds files.old) (λ held.
-        SendsFront (S.written out.old) (S.written out.new) (done_with held (task_view task.entry) editor.old.rules editor.old.state).bytes) }
+        SendsFront (S.written out.old) (S.written out.new) (done_with held (task_view task.entry) (config_in (λ object. gives (object.vtable, object.value)) editor.old) (state_in editor.old)).bytes) }
     ensures not_fetched { result ≡ Status.NotFetched → S.written out.new ≡ S.written out.old }
     ensures missing { result ≡ Status.NotFetched → ¬ Rose (F.faults files.old) (F.faults files.new) → IsMissingFor (F.holds files.old) (task_view task.entry) }
     ensures not_written { result ≡ Status.NotWritten → Rose (S.faults out.old) (S.faults out.new) }
@@ -237,7 +253,7 @@ fn go_on<F: Files, S: Sink>(
     ensures words { result ≢ Status.BadWords }
 {
     match task {
-        Task::Run { script, .. } => answer_script(alloc, editor, script, files, out),
+        Task::Run { script, .. } => answer_script(alloc, editor, script, files, out, steps),
         Task::Check { .. } => accept_settings(out),
     }
 }
@@ -251,29 +267,36 @@ fn let_go(editor: Editor, status: Status) -> Status
 }
 
 /// Does what the words ask for.
-fn run_task<F: Files, S: Sink>(alloc: Global, task: Task<'_>, files: &mut F, out: &mut S) -> Status
+fn run_task<F: Files, S: Sink, L: Ledger>(
+    alloc: Global,
+    task: Task<'_>,
+    files: &mut F,
+    out: &mut S,
+    extensions: Extensions,
+    steps: &mut Steps<L>,
+) -> Status
     ensures output { IfSome (F.holds files.old) (λ held. result ≢ Status.NoMemory → result ≢ Status.NotWritten
         → (result ≡ Status.NotFetched → ¬ Rose (F.faults files.old) (F.faults files.new))
-        → IsOutcome (S.written out.old) (S.written out.new) (status_code result) (task_outcome held (task_view task.entry))) }
+        → IsOutcome (S.written out.old) (S.written out.new) (status_code result) (task_outcome (givings_of (λ object. gives (object.vtable, object.value)) extensions.converters.items) held (task_view task.entry))) }
     ensures part { IfSome (F.holds files.old) (λ held.
-        SendsFront (S.written out.old) (S.written out.new) (task_outcome held (task_view task.entry)).bytes) }
+        SendsFront (S.written out.old) (S.written out.new) (task_outcome (givings_of (λ object. gives (object.vtable, object.value)) extensions.converters.items) held (task_view task.entry)).bytes) }
     ensures not_fetched { result ≡ Status.NotFetched → S.written out.new ≡ S.written out.old }
     ensures missing { result ≡ Status.NotFetched → ¬ Rose (F.faults files.old) (F.faults files.new) → IsMissingFor (F.holds files.old) (task_view task.entry) }
     ensures not_written { result ≡ Status.NotWritten → Rose (S.faults out.old) (S.faults out.new) }
     ensures too_large { result ≡ Status.TooLarge → S.written out.new ≡ S.written out.old }
     ensures words { result ≢ Status.BadWords }
 {
-    match open_settings(alloc, task.settings(), files) {
+    match open_settings(alloc, task.settings(), files, extensions, steps) {
         Ok(mut editor) => {
-            let status = go_on(alloc, &mut editor, task, files, out);
+            let status = go_on(alloc, &mut editor, task, files, out, steps);
             let_go(editor, status)
         }
         Err(fault) => end(fault, out),
     }
 }
 
-/// Runs the program: opens the editor of the settings file that the words name, answers the lines of the script in order, and answers the
-/// status.
+/// Runs the program: opens the editor of the settings file that the words name, with the converters of the product that are handed in, answers
+/// the lines of the script in order, and answers the status.
 ///
 /// | Status | When |
 /// |---|---|
@@ -286,18 +309,25 @@ fn run_task<F: Files, S: Sink>(alloc: Global, task: Task<'_>, files: &mut F, out
 /// | 6 | the settings have more than 1,048,576 bytes, or the script more than 67,108,864 |
 ///
 /// The bytes and the status are those of the definition `output`, a machine on plain trees.
-pub fn run<F: Files, S: Sink>(alloc: Global, words: &[String], files: &mut F, out: &mut S) -> u8
+pub fn run<F: Files, S: Sink, L: Ledger>(
+    alloc: Global,
+    words: &[String],
+    files: &mut F,
+    out: &mut S,
+    extensions: Extensions,
+    steps: &mut Steps<L>,
+) -> u8
     // Where it is told what is held: unless memory ran out or a call failed, the status and the bytes are the machine's.
     ensures output { IfSome (F.holds files.old) (λ held. result ≢ 3 → result ≢ 5
         → (result ≡ 4 → ¬ Rose (F.faults files.old) (F.faults files.new))
-        → IsOutcome (S.written out.old) (S.written out.new) result (output (map string_bytes words.now) held)) }
+        → IsOutcome (S.written out.old) (S.written out.new) result (output (givings_of (λ object. gives (object.vtable, object.value)) extensions.converters.items) (map string_bytes words.now) held)) }
     ensures complete { IfSome (F.holds files.old) (λ held.
         ¬ Rose (F.faults files.old) (F.faults files.new) → ¬ Rose (S.faults out.old) (S.faults out.new) → result ≢ 3
-        → IsOutcome (S.written out.old) (S.written out.new) result (output (map string_bytes words.now) held)) }
+        → IsOutcome (S.written out.old) (S.written out.new) result (output (givings_of (λ object. gives (object.vtable, object.value)) extensions.converters.items) (map string_bytes words.now) held)) }
 
     // What was written is always a front of the machine's bytes.
     ensures part { IfSome (F.holds files.old) (λ held.
-        SendsFront (S.written out.old) (S.written out.new) (output (map string_bytes words.now) held).bytes) }
+        SendsFront (S.written out.old) (S.written out.new) (output (givings_of (λ object. gives (object.vtable, object.value)) extensions.converters.items) (map string_bytes words.now) held).bytes) }
 
     // Whatever the files and the sink tell, each status has its cause.
     ensures bad_words { result ≡ 2 → ShowsUsage (S.written out.old) (S.written out.new) (map string_bytes words.now) }
@@ -309,22 +339,24 @@ pub fn run<F: Files, S: Sink>(alloc: Global, words: &[String], files: &mut F, ou
     ensures too_large { result ≡ 6 → S.written out.new ≡ S.written out.old }
     ensures statuses { is_status result ≡ true }
 {
-    run_words(alloc, words, files, out).code()
+    run_words(alloc, words, files, out, extensions, steps).code()
 }
 
 /// Runs the program, and says how it ended.
-fn run_words<F: Files, S: Sink>(
+fn run_words<F: Files, S: Sink, L: Ledger>(
     alloc: Global,
     words: &[String],
     files: &mut F,
     out: &mut S,
+    extensions: Extensions,
+    steps: &mut Steps<L>,
 ) -> Status
     ensures output { IfSome (F.holds files.old) (λ held.
         result ≢ Status.NoMemory → result ≢ Status.NotWritten
         → (result ≡ Status.NotFetched → ¬ Rose (F.faults files.old) (F.faults files.new))
-        → IsOutcome (S.written out.old) (S.written out.new) (status_code result) (output (map string_bytes words.now) held)) }
+        → IsOutcome (S.written out.old) (S.written out.new) (status_code result) (output (givings_of (λ object. gives (object.vtable, object.value)) extensions.converters.items) (map string_bytes words.now) held)) }
     ensures part { IfSome (F.holds files.old) (λ held.
-        SendsFront (S.written out.old) (S.written out.new) (output (map string_bytes words.now) held).bytes) }
+        SendsFront (S.written out.old) (S.written out.new) (output (givings_of (λ object. gives (object.vtable, object.value)) extensions.converters.items) (map string_bytes words.now) held).bytes) }
     ensures bad_words { result ≡ Status.BadWords → ShowsUsage (S.written out.old) (S.written out.new) (map string_bytes words.now) }
     ensures words { task_of (map string_bytes words.now) ≡ None
         → (result ≡ Status.BadWords) ⊎ (result ≡ Status.NotWritten) }
@@ -335,7 +367,7 @@ fn run_words<F: Files, S: Sink>(
     ensures too_large { result ≡ Status.TooLarge → S.written out.new ≡ S.written out.old }
 {
     match task_of(words) {
-        Some(task) => run_task(alloc, task, files, out),
+        Some(task) => run_task(alloc, task, files, out, extensions, steps),
         None => show_usage(out),
     }
 }
