@@ -1,8 +1,8 @@
 #!/usr/bin/env python3
-"""Measures microseconds a line of the program, in documents of growing length.
+"""Measures microseconds a line of the program, in documents of growing length, and below a growing number of highlights.
 
 Usage: bench/run.py PROGRAM, where PROGRAM is the built program (docs/PERFORMANCE.md says where it lies).
-It prints the rows of the table in docs/PERFORMANCE.md.
+It prints the rows of the tables in docs/PERFORMANCE.md.
 """
 import json
 import pathlib
@@ -12,7 +12,9 @@ import tempfile
 import time
 
 PARAGRAPHS = (100, 1_000, 10_000)
+MARKERS = (10, 100, 1_000)
 LINES = 200
+SHOWS = 20
 TEXT = "The quick brown fox jumps over the lazy dog. "
 SETTINGS = {
     "version": 1,
@@ -20,21 +22,45 @@ SETTINGS = {
         {"item": "paragraph", "inheritAllFrom": "$block"},
         {"extend": "$text", "allowAttributes": ["bold"]},
     ],
-    "converters": [{"kind": "elementToElement", "model": "paragraph", "view": {"name": "p"}}],
+    "converters": [
+        {"kind": "elementToElement", "model": "paragraph", "view": {"name": "p"}},
+        {"kind": "attributeToElement", "model": "bold", "view": {"name": "strong"}},
+        {"kind": "markerToHighlight", "marker": "comment", "view": {"attributes": {"class": "comment"}}},
+    ],
 }
 
 
+def line_of(value):
+    return json.dumps(value, separators=(",", ":"))
+
+
 def change(*edits):
-    return json.dumps({"do": "change", "edits": edits}, separators=(",", ":"))
+    return line_of({"do": "change", "edits": edits})
+
+
+SHOW = line_of({"do": "show"})
+
+
+def paragraph(index, text):
+    """The edits that make a paragraph of a text."""
+    yield {"edit": "insertElement", "at": [index], "name": "paragraph"}
+    yield {"edit": "insertText", "at": [index, 0], "text": text}
 
 
 def document(count):
     """One change that makes a document of so many paragraphs."""
-    edits = []
-    for index in range(count):
-        edits.append({"edit": "insertElement", "at": [index], "name": "paragraph"})
-        edits.append({"edit": "insertText", "at": [index, 0], "text": TEXT})
-    return change(*edits)
+    return change(*(edit for index in range(count) for edit in paragraph(index, TEXT)))
+
+
+def highlighted(count):
+    """One change that makes a paragraph of ten sentences, which so many markers cover but for as many characters at its ends."""
+    length = 10 * len(TEXT)
+    ends = [(index % 200, length - index % 200) for index in range(count)]
+    markers = (
+        {"edit": "addMarker", "name": f"comment:{index}", "start": [0, start], "end": [0, end]}
+        for index, (start, end) in enumerate(ends)
+    )
+    return change(*paragraph(0, 10 * TEXT), *markers)
 
 
 def kinds(middle, line):
@@ -59,30 +85,54 @@ def microseconds(program, folder, lines):
     taken = []
     for _ in range(3):
         process = subprocess.Popen([program, "run", settings, script], stdout=subprocess.PIPE)
-        process.stdout.readline()
+        answer = process.stdout.readline()
         start = time.perf_counter()
-        answered = sum(1 for _ in process.stdout)
+        for answer in process.stdout:
+            pass
         taken.append(time.perf_counter() - start)
-        if process.wait() != 0 or answered != len(lines) - 1:
+        if process.wait() != 0 or not answer.startswith(b"%d " % len(lines)):
             sys.exit("the script was not answered")
     return min(taken) / (len(lines) - 1) * 1e6
+
+
+def print_head(first, counts, of):
+    print(f"| {first} | " + " | ".join(f"{count:,} {of}" for count in counts) + " |")
+    print("|---|" + "---|" * len(counts))
+
+
+def print_row(program, folder, name, scripts):
+    row = [f"{microseconds(program, folder, lines):.0f}" for lines in scripts]
+    print(f"| {name} | " + " | ".join(row) + " |", flush=True)
+
+
+def print_edits(program, folder):
+    print_head("Line", PARAGRAPHS, "paragraphs")
+    for kind in kinds(0, 0):
+        for suffix, more in (("", []), (", then an edit that is refused", [UNKNOWN])):
+            scripts = [
+                [document(count)] + [change(kinds(count // 2, line)[kind], *more) for line in range(min(LINES, count // 3))]
+                for count in PARAGRAPHS
+            ]
+            print_row(program, folder, kind + suffix, scripts)
+    print_row(program, folder, "show", [[document(count)] + [SHOW] * SHOWS for count in PARAGRAPHS])
+
+
+def print_highlights(program, folder):
+    print_head("Line", MARKERS, "markers")
+    typed = change({"edit": "insertText", "at": [0, 225], "text": "x"})
+    print_row(program, folder, "insertText, one character", [[highlighted(count)] + [typed] * SHOWS for count in MARKERS])
+    print_row(program, folder, "show", [[highlighted(count)] + [SHOW] * SHOWS for count in MARKERS])
 
 
 def main():
     if len(sys.argv) != 2:
         sys.exit(__doc__)
     program = sys.argv[1]
-    print("| Line | " + " | ".join(f"{count:,} paragraphs" for count in PARAGRAPHS) + " |")
-    print("|---|" + "---|" * len(PARAGRAPHS))
     with tempfile.TemporaryDirectory() as name:
-        for kind in kinds(0, 0):
-            for suffix, more in (("", []), (", then an edit that is refused", [UNKNOWN])):
-                row = []
-                for count in PARAGRAPHS:
-                    edits = [kinds(count // 2, line)[kind] for line in range(min(LINES, count // 3))]
-                    lines = [document(count)] + [change(edit, *more) for edit in edits]
-                    row.append(f"{microseconds(program, pathlib.Path(name), lines):.0f}")
-                print(f"| {kind}{suffix} | " + " | ".join(row) + " |", flush=True)
+        folder = pathlib.Path(name)
+        print_edits(program, folder)
+        print()
+        print_highlights(program, folder)
 
 
 main()
