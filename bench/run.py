@@ -13,8 +13,8 @@ import time
 
 PARAGRAPHS = (100, 1_000, 10_000)
 MARKERS = (10, 100, 1_000)
-LINES = 200
-SHOWS = 20
+LINES = 50
+SHOWS = 10
 TEXT = "The quick brown fox jumps over the lazy dog. "
 SETTINGS = {
     "version": 1,
@@ -77,22 +77,24 @@ def kinds(middle, line):
 UNKNOWN = {"edit": "insertElement", "at": [0], "name": "table"}
 
 
-def microseconds(program, folder, lines):
-    """The time a line behind the first one, which makes the document: the best of three runs."""
+def seconds(program, folder, lines):
+    """The time of a run of a script: the best of three."""
     settings, script = folder / "settings", folder / "script"
     settings.write_text(json.dumps(SETTINGS))
     script.write_text("".join(line + "\n" for line in lines))
     taken = []
     for _ in range(3):
-        process = subprocess.Popen([program, "run", settings, script], stdout=subprocess.PIPE)
-        answer = process.stdout.readline()
         start = time.perf_counter()
-        for answer in process.stdout:
-            pass
+        process = subprocess.run([program, "run", settings, script], stdout=subprocess.PIPE, check=True)
         taken.append(time.perf_counter() - start)
-        if process.wait() != 0 or not answer.startswith(b"%d " % len(lines)):
+        if not process.stdout.splitlines()[-1].startswith(b"%d " % len(lines)):
             sys.exit("the script was not answered")
-    return min(taken) / (len(lines) - 1) * 1e6
+    return min(taken)
+
+
+def microseconds(program, folder, lines):
+    """The time of a line behind the first one, which makes the document."""
+    return (seconds(program, folder, lines) - seconds(program, folder, lines[:1])) / (len(lines) - 1) * 1e6
 
 
 def print_head(first, counts, of):
