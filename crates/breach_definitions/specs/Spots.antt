@@ -1,5 +1,5 @@
 -- The first breach among some items of a document.
-use Rattle.std.specs.Prelude.{◌≡◌, ℕ, ◌+◌, ◌≤◌, ◌<◌, List, [], ◌∷◌, Bool, true, false, ◌&&◌, ◌==◌, nat_le, nat_lt, Option, Some, None, IsSome}
+use Rattle.std.specs.Prelude.{ℕ, ◌≤◌, List, [], ◌∷◌, Bool, true, false, ◌&&◌, ◌==◌, nat_le, nat_lt, Option, Some, None, IsSome}
 use Rattle.std.specs.List.{list_any, filter}
 use Rattle.ck_base.specs.declared.faults.Rule.{Rule}
 use Rattle.item_definitions.specs.Item.{Item}

@@ -6,7 +6,7 @@ use Rattle.item_definitions.specs.Item.{Item, character, element, none, more, in
 use Rattle.item_definitions.specs.Children.{Change, parent_of, offset_of, at, child_count}
 use Rattle.item_definitions.specs.Position.{Range, between, IsRange, not_after, is_before}
 use Rattle.item_definitions.specs.Shift as shifts
-use Rattle.item_definitions.specs.Shift.{Stick, Shift, to_next, to_previous, stay, remove, carry, carry_insert, carry_remove, carried_ends, carry_range, within, rule_insert, rule_remove, rule_split, rule_merge, lies_in_run, with_run, forward}
+use Rattle.item_definitions.specs.Shift.{Stick, Shift, to_next, to_previous, stay, remove, carry, carry_insert, carry_remove, carried_ends, carry_range, within, rule_insert, rule_remove, rule_split, rule_merge, lies_in_run, with_run}
 use Rattle.item_definitions.proofs.Order.{not_after-itself}
 use Rattle.operation_definitions.specs.Level.{put_in, take_out, give, rename_at, split_at, merge_at}
 use Rattle.operation_definitions.specs.Operation.{Fault, Operation, in_tree, in_cell, fresh, from_cell, insert, move, attribute, rename, split, merge, marker, no_place, not_flat, into_itself, old_differs, not_neighbours, cell_state, found_name}

@@ -20,7 +20,7 @@ use Rattle.operation_definitions.proofs.Steps.{step-ok}
 use Rattle.operation_definitions.proofs.Names.{same_numbers}
 use Rattle.operation_definitions.proofs.Simple.{after-effect, pair-first}
 use Rattle.document_definitions.specs.Markers as markers
-use Rattle.document_definitions.specs.Markers.{Markers, with_marker}
+use Rattle.document_definitions.specs.Markers.{Markers}
 use Rattle.document_definitions.specs.Selection as selections
 use Rattle.document_definitions.specs.Selection.{Selection, selected, is_collapsed, same_position, same_range}
 use Rattle.document_definitions.specs.Document.{State, ids_of, brought, raised, shift_of, markers_after, changed, applied}

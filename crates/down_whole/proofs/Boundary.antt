@@ -7,7 +7,7 @@ use Rattle.document_definitions.specs.Markers.{Markers}
 use Rattle.view_definitions.specs.Row.{Entry}
 use Rattle.converter_definitions.specs.declared.stock.Leaf.{Leaf}
 use Rattle.converter_definitions.specs.Layers.{leaf_of}
-use Rattle.downcast_definitions.specs.Scene.{Numbers, Caret, leaf_entry, leaves, ends_at, starts_at, carets, boundary}
+use Rattle.downcast_definitions.specs.Scene.{leaf_entry, leaves, ends_at, starts_at, carets, boundary}
 use Rattle.downcast_definitions.specs.Scene as scene
 use Rattle.down_whole.specs.Scenes.{with_leaves, chosen_leaves}
 use Rattle.down_whole.specs.Written.{Written, with_row}

@@ -4,7 +4,7 @@ use Rattle.std.proofs.lemmas.Bool.Decides.{nat_tests}
 use Rattle.std.specs.Prelude.{nat_le, option_map}
 use Rattle.std.specs.Cmp.Lexicographic.{same_text, other_text}
 use Rattle.std.specs.List.{filter_map, cons_option}
-use Rattle.item_definitions.specs.Item.{Item, Items, items_of}
+use Rattle.item_definitions.specs.Item.{Item, items_of}
 use Rattle.item_definitions.specs.Item as items
 use Rattle.item_definitions.specs.Children.{parent_of, offset_of}
 use Rattle.item_definitions.specs.Position.{Range}

@@ -3,7 +3,7 @@ use Rattle.std.specs.Prelude.{ℕ, ◌+◌, ◌-◌, ◌^◌, min, List, [], ◌
 use Rattle.ck_base.specs.declared.faults.EditFault.{EditFault}
 use Rattle.ck_base.specs.declared.faults.EditFault.TheVariants.{TooLarge, TooDeep, NoMemory}
 use Rattle.item_definitions.specs.Position.{between}
-use Rattle.operation_definitions.specs.Operation.{Operation, Fault, no_place, not_flat, into_itself, old_differs, not_neighbours, cell_state, too_large, too_deep}
+use Rattle.operation_definitions.specs.Operation.{Fault, no_place, not_flat, into_itself, old_differs, not_neighbours, cell_state, too_large, too_deep}
 use Rattle.document_definitions.specs.Selection.{selected, with_override}
 use Rattle.document_definitions.specs.Document.{State, with_selection, all_applied}
 use Rattle.edit_definitions.specs.declared.edit.Edit.{Edit}

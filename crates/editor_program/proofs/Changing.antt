@@ -1,5 +1,5 @@
 -- What an editor that may accept a change answers to it, in the words of the machine.
-use Rattle.std.proofs.Common.{◌≡◌, ◌≢◌, ℕ, ◌+◌, ◌<◌, ◌==◌, List, Bool, true, false, if◌then◌else◌, Result, Ok, Err, IfOk, OnOk, String, string_bytes, Global, sym, ap, ◌∙◌, arith}
+use Rattle.std.proofs.Common.{◌≡◌, ◌≢◌, ℕ, ◌+◌, ◌<◌, ◌==◌, List, Bool, false, if◌then◌else◌, Result, Ok, Err, IfOk, OnOk, String, string_bytes, Global, sym, ap, ◌∙◌, arith}
 use Rattle.std.proofs.lemmas.Bool.Decides.{nat_tests}
 use Rattle.ck_base.specs.declared.faults.Refusal.{Refusal}
 use Rattle.ck_base.specs.declared.faults.Refusal.TheVariants.{ChangesSpent, NoMemory}

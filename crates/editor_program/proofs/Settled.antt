@@ -1,5 +1,5 @@
 -- The end of a run that reads its settings from bytes that are held.
-use Rattle.std.proofs.Common.{◌≡◌, ℕ, ◌≤◌, List, length, Bool, true, false, if◌then◌else◌, Option, Some, None, Result, Ok, Err, IfOk, IfErr, IfSome, Global, nat_lt, sym, ap, subst, ◌∙◌, arith}
+use Rattle.std.proofs.Common.{◌≡◌, ℕ, ◌≤◌, List, length, false, if◌then◌else◌, Option, Some, None, Result, Ok, Err, IfOk, IfErr, IfSome, Global, nat_lt, sym, ap, subst, ◌∙◌, arith}
 use Rattle.std.proofs.lemmas.Bool.Decides.{nat_tests}
 use Rattle.std.specs.declared.dyn_box.DynBox.{DynBox}
 use Rattle.conv_rules.specs.Listed.{Giving}

@@ -7,7 +7,7 @@ use Rattle.converter_definitions.specs.declared.facts.Facts.{Facts}
 use Rattle.converter_definitions.specs.declared.facts.Key.{Key}
 use Rattle.converter_definitions.specs.declared.part.Part.{Part}
 use Rattle.conv_rules.specs.Turn.{IsLawful}
-use Rattle.editor_program.specs.Extensions.{text_in, of_elements, mention_of, mention, checkbox_of, checkbox, anchor_of, heading_anchor}
+use Rattle.editor_program.specs.Extensions.{text_in, mention_of, mention, checkbox_of, checkbox, anchor_of, heading_anchor}
 
 if_lawful : (test : Bool) (made : Option (List Key × Part)) → IsLawful made → IsLawful (if test then made else None)
 if_lawful true made lawful = lawful

@@ -12,7 +12,6 @@ use Rattle.ck_base.specs.Entries.{name_cmp, IsOrdered, value_of, with_value, wit
 use Rattle.ck_base.proofs.Ordered.{first, second, before_all, none_before, ordered_with_value}
 use Rattle.ck_base.proofs.Places.{same_name}
 use Rattle.item_definitions.specs.Position.{behind}
-use Rattle.std.proofs.lemmas.List.{append_assoc}
 use Rattle.item_definitions.proofs.Order.{behind-push}
 
 -- the first of two names comes before the second

@@ -9,7 +9,7 @@ use Rattle.item_definitions.specs.Children.{parent_of, offset_of, children_at, a
 use Rattle.item_definitions.specs.Position.{Range, IsFlat}
 use Rattle.operation_definitions.specs.Level.{give, given}
 use Rattle.operation_definitions.specs.Operation as meant
-use Rattle.operation_definitions.specs.Operation.{attribute, no_place, not_flat, old_differs, found_value}
+use Rattle.operation_definitions.specs.Operation.{attribute, not_flat}
 use Rattle.operation_definitions.specs.After.{◌>>=◌, check, effect, first_other, no_other}
 use Rattle.operation_definitions.proofs.Names.{same_numbers, numbers_same}
 use Rattle.model_tree.specs.Places.{put_run}

@@ -1,5 +1,5 @@
 -- The limits on the tree, which are tested behind the premises of an operation.
-use Rattle.std.proofs.Common.{◌≡◌, ◌≢◌, ℕ, ◌<◌, ◌≤◌, ◌-◌, ◌^◌, min, Bool, true, false, nat_le, List, Option, Some, Result, Ok, Err, refl, sym, ap, ◌∙◌, subst, arith}
+use Rattle.std.proofs.Common.{◌≡◌, ℕ, ◌<◌, ◌≤◌, ◌-◌, ◌^◌, min, Bool, true, false, nat_le, List, Some, Result, Ok, Err, refl, sym, ap, ◌∙◌, subst, arith}
 use Rattle.std.proofs.lemmas.Bool.Decides.{nat_tests}
 use Rattle.item_definitions.specs.Item.{Item, count_of, depth_of}
 use Rattle.operation_definitions.specs.Operation as meant
@@ -7,7 +7,7 @@ use Rattle.operation_definitions.specs.Operation.{Operation, too_large, too_deep
 use Rattle.operation_definitions.specs.After.{◌>>=◌, check, effect, limited, after}
 use Rattle.model_tree.specs.Limits.{IsTree}
 use Rattle.model_ops.specs.declared.fault.OpFault.{OpFault}
-use Rattle.model_ops.specs.declared.fault.OpFault.TheVariants.{TooLarge, TooDeep, NoMemory}
+use Rattle.model_ops.specs.declared.fault.OpFault.TheVariants.{TooLarge, TooDeep}
 use Rattle.model_ops.specs.declared.plans.Change.{Change}
 use Rattle.model_ops.specs.Effects.{State, Plans, CanFill, refusal, filled}
 

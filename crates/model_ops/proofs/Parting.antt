@@ -1,8 +1,7 @@
 -- What a split with an element from a cell plans.
-use Rattle.std.proofs.Common.{◌≡◌, ◌≢◌, ℕ, ◌<◌, ◌≤◌, Bool, true, false, nat_lt, nat_le, ◌==◌, if◌then◌else◌, List, [], ◌∷◌, ◌++◌, length, set, Option, Some, None, option_and_then, slice_get, ok_or, Result, Ok, Err, refl, sym, ap, ◌∙◌, subst, arith}
-use Rattle.std.specs.Prelude.{is_some, get_or}
-use Rattle.std.proofs.lemmas.Bool.Decides.{nat_tests}
-use Rattle.item_definitions.specs.Item.{Item, character, element, none, more, list_of, inner}
+use Rattle.std.proofs.Common.{◌≡◌, ◌≢◌, ℕ, ◌≤◌, Bool, true, false, nat_le, ◌==◌, List, [], ◌∷◌, length, set, Option, Some, None, option_and_then, slice_get, ok_or, Result, Ok, Err, refl, sym, ap, ◌∙◌, arith}
+use Rattle.std.specs.Prelude.{is_some}
+use Rattle.item_definitions.specs.Item.{Item, character, element, none, more, list_of}
 use Rattle.item_definitions.specs.Children.{parent_of, offset_of, children_at, at}
 use Rattle.operation_definitions.specs.Level.{split_at}
 use Rattle.operation_definitions.specs.Operation as meant

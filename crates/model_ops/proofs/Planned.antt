@@ -6,7 +6,7 @@ use Rattle.item_definitions.specs.Children.{parent_of, offset_of, at}
 use Rattle.item_definitions.specs.Shift.{carry_remove}
 use Rattle.operation_definitions.specs.Level.{put_in, take_out}
 use Rattle.operation_definitions.specs.Operation as meant
-use Rattle.operation_definitions.specs.Operation.{in_tree, in_cell, insert, move, no_place, into_itself, cell_state}
+use Rattle.operation_definitions.specs.Operation.{in_tree, insert, move, no_place, into_itself}
 use Rattle.operation_definitions.specs.After.{◌>>=◌, check, effect, stands, is_in_run}
 use Rattle.model_tree.specs.Places.{Gives}
 use Rattle.model_tree.specs.Limits.{changed, moved}

@@ -1,9 +1,9 @@
 -- Where a boundary of a row is seen among the nodes that the row nests to.
-use Rattle.std.proofs.Common.{◌≡◌, ℕ, zero, suc, ◌≤◌, List, [], ◌∷◌, length, take, false, Some, refl, sym, ap, ◌∙◌, subst, arith}
+use Rattle.std.proofs.Common.{◌≡◌, ℕ, zero, suc, ◌≤◌, List, [], ◌∷◌, length, take, false, Some, refl, sym, ap, ◌∙◌, subst}
 use Rattle.std.specs.Prelude.{slice_get, if◌then◌else◌}
 use Rattle.view_definitions.specs.Node.{nodes_of}
 use Rattle.view_definitions.specs.Layer.{Layer}
-use Rattle.view_definitions.specs.Row.{caret, Entry, pieces_of, nest}
+use Rattle.view_definitions.specs.Row.{Entry, pieces_of, nest}
 use Rattle.downcast_definitions.specs.Place.{as_place}
 use Rattle.downcast_definitions.specs.Seen.{common, layers_at, layers_before, character_before, character_layers_at, marked, place_of}
 use Rattle.downcast_definitions.proofs.Entries.{AllStand, items_in, contents_of, contents-row}

@@ -1,7 +1,7 @@
 -- The view of a document with numbers, and the same without them.
 use Rattle.std.proofs.Common.{◌≡◌, ℕ, suc, ◌+◌, ◌^◌, ◌<◌, ◌≤◌, max, List, [], ◌∷◌, ◌++◌, length, Bool, true, false, ◌&&◌, Option, Some, None, option_map, option_and_then, refl, sym, ap, ◌∙◌, subst, arith}
 use Rattle.std.proofs.lemmas.Bool.Decides.{nat_tests}
-use Rattle.std.specs.Prelude.{IsSomeAnd, slice_get, if◌then◌else◌, nat_lt, nat_le, codes}
+use Rattle.std.specs.Prelude.{IsSomeAnd, slice_get, if◌then◌else◌, nat_le, codes}
 use Rattle.std.specs.List.{filter_map, cons_option}
 use Rattle.item_definitions.specs.Item.{Item, Items, items_of, inner_count, inner_depth, item_count, item_depth, count_of, depth_of}
 use Rattle.item_definitions.specs.Item as items
@@ -10,7 +10,7 @@ use Rattle.document_definitions.specs.Document.{Document}
 use Rattle.document_definitions.specs.Markers.{Markers}
 use Rattle.document_definitions.specs.Selection.{same_position}
 use Rattle.model_tree.specs.Limits.{IsTree}
-use Rattle.view_definitions.specs.Node.{ViewAttributes, Kind, ui, ViewNode, ViewNodes, nodes_of, list_of}
+use Rattle.view_definitions.specs.Node.{ViewAttributes, ui, ViewNode, nodes_of, list_of}
 use Rattle.view_definitions.specs.Node as nodes
 use Rattle.view_definitions.specs.NodeCode.{list_of-nodes_of}
 use Rattle.view_definitions.specs.Row.{Content, leaf, item, character, caret, Entry, nest}

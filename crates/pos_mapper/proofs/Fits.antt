@@ -1,6 +1,5 @@
 -- A mark between two entries, in the layers that go on across it, fits between nodes.
 use Rattle.std.proofs.Common.{◌≡◌, ℕ, zero, suc, ◌+◌, ◌-◌, ◌<◌, List, [], ◌∷◌, take, Bool, true, false, ◌&&◌, refl, ap, ◌∙◌, subst, arith}
-use Rattle.std.proofs.lemmas.Bool.Decides.{nat_tests}
 use Rattle.std.specs.Prelude.{nat_lt, if◌then◌else◌}
 use Rattle.view_definitions.specs.Layer.{Layer, same_layer}
 use Rattle.view_definitions.specs.Change.{IsBareLeaf}

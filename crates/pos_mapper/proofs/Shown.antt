@@ -3,7 +3,7 @@ use Rattle.std.proofs.Common.{◌≡◌, ◌≢◌, ℕ, zero, suc, ◌+◌, ◌
 use Rattle.std.proofs.lemmas.Option.{slice_get_within}
 use Rattle.std.specs.Prelude.{IsSomeAnd, slice_get, if◌then◌else◌, codes}
 use Rattle.std.specs.Option.{option_map_or}
-use Rattle.item_definitions.specs.Item.{Item, Items, Attributes, items_of, list_of, inner}
+use Rattle.item_definitions.specs.Item.{Item, items_of, list_of, inner}
 use Rattle.item_definitions.specs.Item as items
 use Rattle.item_definitions.specs.Children.{parent_of, offset_of, children_at, child_count}
 use Rattle.item_definitions.specs.Position.{IsIn}
@@ -25,7 +25,7 @@ use Rattle.pos_mapper.specs.Bindings.{CaretPlace, Mapper, numbers_of}
 use Rattle.pos_mapper.specs.Mapped.{behind_slot, slot_of, IsBound, AreBound, IsMapped, Shows}
 use Rattle.pos_mapper.specs.Reading.{Slots, slots_in}
 use Rattle.pos_mapper.specs.Seeking as seeking
-use Rattle.pos_mapper.specs.Seeking.{below_index, is_here, caret_among, seen_among, seen_at, place_among, item_among, inside, slot_at, in_content, in_item, shown_at}
+use Rattle.pos_mapper.specs.Seeking.{below_index, is_here, caret_among, seen_among, seen_at, place_among, inside, slot_at, in_content, in_item, shown_at}
 use Rattle.pos_mapper.proofs.Documents.{bound-slot}
 use Rattle.pos_mapper.proofs.Unique.{node-found}
 use Rattle.pos_mapper.proofs.Shifted.{shift, NotEmpty, seen-shifted, place-shifted, shift-front, shift-none, boundary-some, node-some}

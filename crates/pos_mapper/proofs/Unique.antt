@@ -1,8 +1,7 @@
 -- A place that goes on in an item's node is the place of this item.
-use Rattle.std.proofs.Common.{◌≡◌, ℕ, zero, suc, ◌+◌, ◌-◌, ◌<◌, ◌≤◌, List, [], ◌∷◌, ◌++◌, length, Bool, true, false, Option, Some, None, option_map, option_and_then, refl, sym, ap, ◌∙◌, subst, arith}
-use Rattle.std.proofs.lemmas.Bool.Decides.{nat_tests}
+use Rattle.std.proofs.Common.{◌≡◌, ℕ, zero, suc, ◌+◌, ◌-◌, ◌<◌, List, [], ◌∷◌, ◌++◌, length, Bool, true, false, Option, Some, None, option_map, option_and_then, refl, sym, ap, ◌∙◌, subst, arith}
 use Rattle.std.proofs.lemmas.List.{append_cancel_right}
-use Rattle.std.specs.Prelude.{IfSome, slice_get, nat_lt, nat_le, if◌then◌else◌}
+use Rattle.std.specs.Prelude.{IfSome, slice_get, nat_le, if◌then◌else◌}
 use Rattle.view_definitions.specs.Node.{Kind, container, attribute, empty, ui, Head, ViewNode, ViewNodes, text, element, none, more}
 use Rattle.downcast_definitions.specs.Meant.{length_by_kind, model_length, inner_length, Inners, in_text, in_item, by_kind, meant_in, meant_in_node}
 use Rattle.item_definitions.specs.Item.{Item, Items, items_of}

@@ -1,6 +1,6 @@
 -- The printed model: elements as tags, and each longest run of characters with equal attributes as a text, which stands in `$text` where it
 -- has attributes. The marks of a selection stand outside `$text` at its edges, and between its characters inside.
-use Rattle.std.specs.Prelude.{ℕ, ◌+◌, List, [], ◌∷◌, ◌++◌, Bool, true, false, ◌&&◌, nat_eq, Option, Some, None, if◌then◌else◌, codes}
+use Rattle.std.specs.Prelude.{ℕ, ◌+◌, List, [], ◌∷◌, ◌++◌, Bool, true, false, ◌&&◌, nat_eq, Option, Some, None, codes}
 use Rattle.std.specs.Cmp.Lexicographic.{pointwise}
 use Rattle.item_definitions.specs.Item.{Item, Items, character, element, none, more, Attributes}
 use Rattle.operation_definitions.specs.After.{same_value}

@@ -1,7 +1,7 @@
 -- Items and nodes for the worked examples.
-use Rattle.std.specs.Prelude.{ℕ, List, [], ◌∷◌, ◌++◌, map, None, codes}
+use Rattle.std.specs.Prelude.{ℕ, List, [], map, None, codes}
 use Rattle.item_definitions.specs.Item.{Item, Attributes, character, element, items_of}
-use Rattle.view_definitions.specs.Node.{ViewNode, container, text, nodes_of}
+use Rattle.view_definitions.specs.Node.{ViewNode, container, nodes_of}
 use Rattle.view_definitions.specs.Node as nodes
 use Rattle.print_definitions.specs.Marks.{Ends}
 

@@ -1,6 +1,6 @@
 -- The machine that a script runs on: its state is a document with its cells, and each line is answered in turn. A refused line changes
 -- nothing.
-use Rattle.std.specs.Prelude.{ℕ, ◌+◌, List, [], ◌∷◌, ◌++◌, Bool, true, false, Option, Some, None, Result, Ok, Err, if◌then◌else◌, codes}
+use Rattle.std.specs.Prelude.{ℕ, ◌+◌, List, [], ◌∷◌, ◌++◌, Bool, true, false, Some, None, Result, Ok, Err, if◌then◌else◌, codes}
 use Rattle.std.specs.Fmt.{decimal}
 use Rattle.ck_base.specs.declared.faults.Refusal.{Refusal}
 use Rattle.ck_base.specs.declared.faults.Refusal.TheVariants.{NotJson as NotJsonLine, BadField as BadFieldLine, NoMemory as NoMemoryLine}
