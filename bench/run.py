@@ -53,14 +53,15 @@ def document(count):
 
 
 def highlighted(count):
-    """One change that makes a paragraph of ten sentences, which so many markers cover but for as many characters at its ends."""
+    """One change that makes a paragraph of ten sentences, half of it bold, which so many markers cover but for as many characters at its ends."""
     length = 10 * len(TEXT)
+    bold = {"edit": "setAttribute", "start": [0, length // 4], "end": [0, 3 * length // 4], "key": "bold", "value": True}
     ends = [(index % 200, length - index % 200) for index in range(count)]
     markers = (
         {"edit": "addMarker", "name": f"comment:{index}", "start": [0, start], "end": [0, end]}
         for index, (start, end) in enumerate(ends)
     )
-    return change(*paragraph(0, 10 * TEXT), *markers)
+    return change(*paragraph(0, 10 * TEXT), bold, *markers)
 
 
 def kinds(middle, line):

@@ -1,6 +1,6 @@
 -- A layer joined at its place.
-use Rattle.std.specs.Prelude.{◌≡◌, ◌<◌, ◌≤◌, ℕ, suc, ◌+◌, List, [], ◌∷◌, ◌++◌, length, Bool, true, false, not, Some, None, nat_lt, if◌then◌else◌}
-use Rattle.std.proofs.Common.{refl, ap, ◌∙◌, arith, subst}
+use Rattle.std.specs.Prelude.{◌≡◌, ◌<◌, ◌≤◌, ℕ, suc, ◌+◌, List, [], ◌∷◌, ◌++◌, length, Bool, true, false, not, ◌&&◌, Option, Some, None, is_some, is_none, nat_lt, if◌then◌else◌}
+use Rattle.std.proofs.Common.{refl, sym, ap, ◌∙◌, arith, subst}
 use Rattle.std.proofs.lemmas.Bool.Decides.{nat_tests}
 use Rattle.std.specs.List.{position, position_or_len, insert, remove}
 use Rattle.std.proofs.Common.{slice_index_or}
@@ -26,6 +26,25 @@ one_later n = omega arith
 
 later : (test : Bool) (n : ℕ) → (if test then suc n else 0) ≡ (if test then 1 + n else 0)
 later test n = ap (λ m. if test then m else 0) (one_later n)
+
+has_one : (id : Option (List ℕ)) → is_some id ≡ true → is_none id ≡ false
+has_one None e = absurd cc
+has_one (Some name) e = refl
+
+second_fails : (a b c d f : Bool) → b ≡ false → (a && b && c && d && f) ≡ false
+second_fails true true c d f e = absurd cc
+second_fails true false c d f e = refl
+second_fails false b c d f e = refl
+
+-- a layer with an id joins none
+apart : (other next : Layer) → is_some next.id ≡ true → may_join other next ≡ false
+apart other next e = second_fails (is_none other.id) (is_none next.id) _ _ _ (has_one next.id e)
+
+pub joined_apart : (next : Layer) (layers : List Layer) → is_some next.id ≡ true → layers ++ (next ∷ []) ≡ join_into next layers
+joined_apart next [] e = refl
+joined_apart next (other ∷ layers) e =
+    ap (λ made. other ∷ made) (joined_apart next layers e)
+    ∙ sym (ap (λ joins. if joins then with_keys other next ∷ layers else other ∷ join_into next layers) (apart other next e))
 
 module _ (next : Layer) where
   at-step : (test : Bool) (other default : Layer) (layers : List Layer)

@@ -2,9 +2,9 @@
 ghost use Rattle.std.specs.Prelude.{◌≡◌, ◌<◌, ◌≤◌, length, OnOk, IfOk, IfSome, fold};
 ghost use Rattle.std.specs.List.{position};
 ghost use Rattle.ck_base.specs.Entries.{with_value};
-ghost use Rattle.view_definitions.specs.Change.{with_layer};
+ghost use Rattle.view_definitions.specs.Change.{with_layer, IsInOrder};
 ghost use Rattle.converter_definitions.specs.Layers.{in_order, agree, may_join, with_keys, join_into, joined_layers, made_layers};
-ghost use Rattle.conv_rules.specs.Placing.{place_in};
+ghost use Rattle.conv_rules.specs.Placing.{placed};
 
 use ck_base::NoMemory;
 use ck_base::attributes::ViewAttrs;
@@ -12,25 +12,31 @@ use std::alloc::Global;
 use std::cmp::Ordering;
 use view_tree::kind::Layer;
 
-/// Where a layer goes among layers in their order. `None` where it is among them.
+/// Where a layer goes among layers in their order. `None` where it is among them. Layers mostly come in their order, so it looks from the last
+/// one on.
+#[tactic(auto, using(crate::proofs::Placing::among_all, crate::proofs::Placing::among_front, crate::proofs::Placing::placed_less, crate::proofs::Placing::placed_equal, crate::proofs::Placing::placed_first))]
 fn place_in(alloc: Global, layers: &[Layer], next: &Layer) -> Result<Option<usize>, NoMemory>
-    ensures place { IfOk result (λ place. place ≡ place_in 0 next.now layers.now) }
+    requires { IsInOrder layers.now }
+    ensures place { IfOk result (λ place. placed next.now place layers.now ≡ with_layer next.now layers.now) }
     ensures inside { IfOk result (λ place. IfSome place (λ index. index ≤ length layers.now)) }
 {
-    for (place, other) in layers.iter().enumerate() {
-        match other.compare(alloc, next)? {
-            Ordering::Less => {}
+    let mut rest = layers;
+    'outside: while let Some((last, front)) = rest.split_last() {
+        match last.compare(alloc, next)? {
+            Ordering::Less => return Ok(Some(rest.len())),
             Ordering::Equal => return Ok(None),
-            Ordering::Greater => return Ok(Some(place)),
+            Ordering::Greater => rest = front,
         }
     }
-    Ok(Some(layers.len()))
+    Ok(Some(0))
 }
 
 /// Puts a layer at its place among layers in their order, unless it is among them.
-#[tactic(auto, using(crate::proofs::Placing::placed_at, crate::proofs::Placing::placed_none))]
+#[tactic(auto, using(crate::proofs::Placing::placed_in_order))]
 fn put_layer(alloc: Global, layers: &mut Vec<Layer>, next: Layer) -> Result<(), NoMemory>
-    ensures { OnOk result (layers.new.items ≡ with_layer next layers.old.items) }
+    requires { IsInOrder layers.old.items }
+    ensures placed { OnOk result (layers.new.items ≡ with_layer next layers.old.items) }
+    ensures ordered { OnOk result (IsInOrder layers.new.items) }
 {
     match place_in(alloc, layers.as_slice(), &next)? {
         Some(place) => {
@@ -110,10 +116,16 @@ fn with_keys(layer: Layer, next: &Layer) -> Result<Layer, NoMemory>
     })
 }
 
-/// Joins a layer to the first one that it may be one with, or puts it behind all.
+/// Joins a layer to the first one that it may be one with, or puts it behind all. One with an id may be one with no other, so it is compared
+/// with none.
+#[tactic(auto, using(crate::proofs::Joining::joined_apart))]
 fn join_into(layers: &mut Vec<Layer>, next: Layer) -> Result<(), NoMemory>
     ensures { OnOk result (layers.new.items ≡ join_into next layers.old.items) }
 {
+    if next.id.is_some() {
+        layers.push(next)?;
+        return Ok(());
+    }
     match partner(layers.as_slice(), &next) {
         Some(place) => {
             let layer = layers.remove(place);

@@ -1,6 +1,9 @@
-use Rattle.std.proofs.Common.{◌≡◌, drop}
-use Rattle.conv_rules.specs.Placing.{place_in}
+use Rattle.std.proofs.Common.{length}
+use Rattle.conv_rules.proofs.Placing.{GoesAmong}
 use Rattle.conv_rules.proofs.order.place_in.Given as goal
 
-abbrev pub invariant-loop-place : goal.invariant-loop-place
-invariant-loop-place l = place_in l.place l.fn.next (drop l.place l.fn.layers) ≡ place_in 0 l.fn.next l.fn.layers
+abbrev pub invariant-outside : goal.invariant-outside
+invariant-outside l = GoesAmong l.next l.layers l.rest
+
+abbrev pub decreases-outside : goal.decreases-outside
+decreases-outside l = length l.rest
