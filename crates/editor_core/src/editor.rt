@@ -192,6 +192,7 @@ impl Editor {
         ensures refused { IfErr result (λ refusal. refusal ≢ Refusal.NoMemory → editing.changed edits.now (edited_of (λ object. gives (object.vtable, object.value)) self.old) ≡ Err refusal) }
         ensures err { OnErr result (edited_of (λ object. gives (object.vtable, object.value)) self.new ≡ edited_of (λ object. gives (object.vtable, object.value)) self.old) }
         ensures view { OnErr result (self.new.view.nodes ≡ self.old.view.nodes) }
+        ensures mapper { OnErr result (self.new.mapper ≡ self.old.mapper) }
     {
         if self.accepted == MOST_CHANGES {
             return Err(Refusal::ChangesSpent);
@@ -237,6 +238,8 @@ impl Editor {
         ensures refused { IfErr result (λ refusal. refusal ≢ Refusal.NoMemory
             → editing.view_selected (anchor.now.path ++ anchor.now.offset ∷ []) (focus.now.path ++ focus.now.offset ∷ []) (edited_of (λ object. gives (object.vtable, object.value)) self.old) ≡ Err refusal) }
         ensures err { OnErr result (edited_of (λ object. gives (object.vtable, object.value)) self.new ≡ edited_of (λ object. gives (object.vtable, object.value)) self.old) }
+        ensures view { OnErr result (self.new.view.nodes ≡ self.old.view.nodes) }
+        ensures mapper { OnErr result (self.new.mapper ≡ self.old.mapper) }
     {
         if self.accepted == MOST_CHANGES {
             return Err(Refusal::ChangesSpent);
@@ -257,6 +260,7 @@ impl Editor {
         ensures refused { IfErr result (λ refusal. refusal ≢ Refusal.NoMemory
             → selecting (conversion_of (λ object. gives (object.vtable, object.value)) self.now.list) self.now.document.state.document (anchor.now.path ++ anchor.now.offset ∷ []) (focus.now.path ++ focus.now.offset ∷ []) ≡ Err refusal) }
     {
+        // That the document is sound is a clause of this call.
         let _tree = self.document.tree();
         let start = position_of(alloc, &self.mapper, &self.view, anchor)?;
         let end = position_of(alloc, &self.mapper, &self.view, focus)?;
@@ -300,6 +304,7 @@ impl Editor {
             ≡ seen (config_in (λ object. gives (object.vtable, object.value)) self.now).conversion (state_in self.now).document
             (state_in self.now).document.selection.range.end) }
     {
+        // That the document is sound is a clause of this call.
         let _tree = self.document.tree();
         let range = self.document.selection().range();
         let start = self.mapper.to_view(alloc, &self.view, range.start())?;
