@@ -3,6 +3,8 @@
 
 pub mod converters;
 mod examples;
+#[cfg(test)]
+mod field_tests;
 pub mod indexed;
 mod patterns;
 pub mod plan;

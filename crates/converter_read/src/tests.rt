@@ -36,7 +36,11 @@ fn answers(alloc: Global, indexes: bool, text: &str, want: &str) -> bool {
 }
 
 /// Reads lists, each with its answer.
-fn expect_answers(alloc: Global, indexes: bool, rows: &[(&str, &str)]) -> Result<(), Fail> {
+pub(crate) fn expect_answers(
+    alloc: Global,
+    indexes: bool,
+    rows: &[(&str, &str)],
+) -> Result<(), Fail> {
     for (text, want) in rows {
         if !answers(alloc, indexes, text, want) {
             return Err(Fail::new("another answer"));

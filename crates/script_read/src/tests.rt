@@ -231,6 +231,18 @@ fn expect_refusals(alloc: Global, rows: &[(&str, &str)]) -> Result<(), Fail> {
 }
 
 #[test]
+fn refused_requests(rt: HostRuntime) -> Result<(), Fail> {
+    expect_refusals(
+        rt.alloc(),
+        &[
+            (r#"{"selection":true}"#, "/do"),
+            (r#"{"do":true}"#, "/do"),
+            (r#"{"do":"select"}"#, "/do"),
+        ],
+    )
+}
+
+#[test]
 fn refused_anchors(rt: HostRuntime) -> Result<(), Fail> {
     expect_refusals(
         rt.alloc(),

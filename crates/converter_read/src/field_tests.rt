@@ -1,0 +1,676 @@
+//! The forms of the settings' converters as tables: each with each of its fields missing, unfit and surplus.
+use crate::tests::expect_answers;
+use std::test::Fail;
+
+/// An element of the model as one of the view.
+#[test]
+fn element_to_element(rt: HostRuntime) -> Result<(), Fail> {
+    expect_answers(
+        rt.alloc(),
+        true,
+        &[
+            (
+                r#"[{"kind":"elementToElement","model":"a","attributes":{"n":1},"parent":"a","view":{"name":"p"},"priority":-100000}]"#,
+                "ok",
+            ),
+            (
+                r#"[{"model":"a","attributes":{"n":1},"parent":"a","view":{"name":"p"},"priority":-100000}]"#,
+                "/0/kind",
+            ),
+            (
+                r#"[{"kind":"elementToElement","attributes":{"n":1},"parent":"a","view":{"name":"p"},"priority":-100000}]"#,
+                "/0/model",
+            ),
+            (
+                r#"[{"kind":"elementToElement","model":"a","parent":"a","view":{"name":"p"},"priority":-100000}]"#,
+                "ok",
+            ),
+            (
+                r#"[{"kind":"elementToElement","model":"a","attributes":{"n":1},"view":{"name":"p"},"priority":-100000}]"#,
+                "ok",
+            ),
+            (
+                r#"[{"kind":"elementToElement","model":"a","attributes":{"n":1},"parent":"a","priority":-100000}]"#,
+                "/0/view",
+            ),
+            (
+                r#"[{"kind":"elementToElement","model":"a","attributes":{"n":1},"parent":"a","view":{"name":"p"}}]"#,
+                "ok",
+            ),
+            (
+                r#"[{"kind":null,"model":"a","attributes":{"n":1},"parent":"a","view":{"name":"p"},"priority":-100000}]"#,
+                "/0/kind",
+            ),
+            (
+                r#"[{"kind":"elementToElement","model":null,"attributes":{"n":1},"parent":"a","view":{"name":"p"},"priority":-100000}]"#,
+                "/0/model",
+            ),
+            (
+                r#"[{"kind":"elementToElement","model":"a","attributes":null,"parent":"a","view":{"name":"p"},"priority":-100000}]"#,
+                "/0/attributes",
+            ),
+            (
+                r#"[{"kind":"elementToElement","model":"a","attributes":{"n":1},"parent":null,"view":{"name":"p"},"priority":-100000}]"#,
+                "/0/parent",
+            ),
+            (
+                r#"[{"kind":"elementToElement","model":"a","attributes":{"n":1},"parent":"a","view":null,"priority":-100000}]"#,
+                "/0/view",
+            ),
+            (
+                r#"[{"kind":"elementToElement","model":"a","attributes":{"n":1},"parent":"a","view":{"name":"p"},"priority":null}]"#,
+                "/0/priority",
+            ),
+            (
+                r#"[{"kind":"elementToElement","model":"a","attributes":{"n":1},"parent":"a","view":{"name":"p"},"priority":-100000,"surplus":1}]"#,
+                "/0/surplus",
+            ),
+        ],
+    )
+}
+
+/// An element as a shape.
+#[test]
+fn element_to_structure(rt: HostRuntime) -> Result<(), Fail> {
+    expect_answers(
+        rt.alloc(),
+        true,
+        &[
+            (
+                r#"[{"kind":"elementToStructure","model":"a","attributes":{"n":1},"parent":"a","view":{"name":"p"},"priority":100000}]"#,
+                "ok",
+            ),
+            (
+                r#"[{"model":"a","attributes":{"n":1},"parent":"a","view":{"name":"p"},"priority":100000}]"#,
+                "/0/kind",
+            ),
+            (
+                r#"[{"kind":"elementToStructure","attributes":{"n":1},"parent":"a","view":{"name":"p"},"priority":100000}]"#,
+                "/0/model",
+            ),
+            (
+                r#"[{"kind":"elementToStructure","model":"a","parent":"a","view":{"name":"p"},"priority":100000}]"#,
+                "ok",
+            ),
+            (
+                r#"[{"kind":"elementToStructure","model":"a","attributes":{"n":1},"view":{"name":"p"},"priority":100000}]"#,
+                "ok",
+            ),
+            (
+                r#"[{"kind":"elementToStructure","model":"a","attributes":{"n":1},"parent":"a","priority":100000}]"#,
+                "/0/view",
+            ),
+            (
+                r#"[{"kind":"elementToStructure","model":"a","attributes":{"n":1},"parent":"a","view":{"name":"p"}}]"#,
+                "ok",
+            ),
+            (
+                r#"[{"kind":null,"model":"a","attributes":{"n":1},"parent":"a","view":{"name":"p"},"priority":100000}]"#,
+                "/0/kind",
+            ),
+            (
+                r#"[{"kind":"elementToStructure","model":null,"attributes":{"n":1},"parent":"a","view":{"name":"p"},"priority":100000}]"#,
+                "/0/model",
+            ),
+            (
+                r#"[{"kind":"elementToStructure","model":"a","attributes":null,"parent":"a","view":{"name":"p"},"priority":100000}]"#,
+                "/0/attributes",
+            ),
+            (
+                r#"[{"kind":"elementToStructure","model":"a","attributes":{"n":1},"parent":null,"view":{"name":"p"},"priority":100000}]"#,
+                "/0/parent",
+            ),
+            (
+                r#"[{"kind":"elementToStructure","model":"a","attributes":{"n":1},"parent":"a","view":null,"priority":100000}]"#,
+                "/0/view",
+            ),
+            (
+                r#"[{"kind":"elementToStructure","model":"a","attributes":{"n":1},"parent":"a","view":{"name":"p"},"priority":null}]"#,
+                "/0/priority",
+            ),
+            (
+                r#"[{"kind":"elementToStructure","model":"a","attributes":{"n":1},"parent":"a","view":{"name":"p"},"priority":100000,"surplus":1}]"#,
+                "/0/surplus",
+            ),
+        ],
+    )
+}
+
+/// An attribute as an attribute element.
+#[test]
+fn attribute_to_element(rt: HostRuntime) -> Result<(), Fail> {
+    expect_answers(
+        rt.alloc(),
+        true,
+        &[
+            (
+                r#"[{"kind":"attributeToElement","model":"a","value":1,"view":{"name":"b"},"priority":"high"}]"#,
+                "ok",
+            ),
+            (
+                r#"[{"model":"a","value":1,"view":{"name":"b"},"priority":"high"}]"#,
+                "/0/kind",
+            ),
+            (
+                r#"[{"kind":"attributeToElement","value":1,"view":{"name":"b"},"priority":"high"}]"#,
+                "/0/model",
+            ),
+            (
+                r#"[{"kind":"attributeToElement","model":"a","view":{"name":"b"},"priority":"high"}]"#,
+                "ok",
+            ),
+            (
+                r#"[{"kind":"attributeToElement","model":"a","value":1,"priority":"high"}]"#,
+                "/0/view",
+            ),
+            (
+                r#"[{"kind":"attributeToElement","model":"a","value":1,"view":{"name":"b"}}]"#,
+                "ok",
+            ),
+            (
+                r#"[{"kind":null,"model":"a","value":1,"view":{"name":"b"},"priority":"high"}]"#,
+                "/0/kind",
+            ),
+            (
+                r#"[{"kind":"attributeToElement","model":null,"value":1,"view":{"name":"b"},"priority":"high"}]"#,
+                "/0/model",
+            ),
+            (
+                r#"[{"kind":"attributeToElement","model":"a","value":null,"view":{"name":"b"},"priority":"high"}]"#,
+                "/0/value",
+            ),
+            (
+                r#"[{"kind":"attributeToElement","model":"a","value":1,"view":null,"priority":"high"}]"#,
+                "/0/view",
+            ),
+            (
+                r#"[{"kind":"attributeToElement","model":"a","value":1,"view":{"name":"b"},"priority":null}]"#,
+                "/0/priority",
+            ),
+            (
+                r#"[{"kind":"attributeToElement","model":"a","value":1,"view":{"name":"b"},"priority":"high","surplus":1}]"#,
+                "/0/surplus",
+            ),
+        ],
+    )
+}
+
+/// An attribute as one of the view's.
+#[test]
+fn attribute_to_attribute(rt: HostRuntime) -> Result<(), Fail> {
+    expect_answers(
+        rt.alloc(),
+        true,
+        &[
+            (
+                r#"[{"kind":"attributeToAttribute","element":"a","model":"a","value":1,"view":{"key":"k"},"priority":"normal"}]"#,
+                "ok",
+            ),
+            (
+                r#"[{"element":"a","model":"a","value":1,"view":{"key":"k"},"priority":"normal"}]"#,
+                "/0/kind",
+            ),
+            (
+                r#"[{"kind":"attributeToAttribute","model":"a","value":1,"view":{"key":"k"},"priority":"normal"}]"#,
+                "ok",
+            ),
+            (
+                r#"[{"kind":"attributeToAttribute","element":"a","value":1,"view":{"key":"k"},"priority":"normal"}]"#,
+                "/0/model",
+            ),
+            (
+                r#"[{"kind":"attributeToAttribute","element":"a","model":"a","view":{"key":"k"},"priority":"normal"}]"#,
+                "ok",
+            ),
+            (
+                r#"[{"kind":"attributeToAttribute","element":"a","model":"a","value":1,"priority":"normal"}]"#,
+                "/0/view",
+            ),
+            (
+                r#"[{"kind":"attributeToAttribute","element":"a","model":"a","value":1,"view":{"key":"k"}}]"#,
+                "ok",
+            ),
+            (
+                r#"[{"kind":null,"element":"a","model":"a","value":1,"view":{"key":"k"},"priority":"normal"}]"#,
+                "/0/kind",
+            ),
+            (
+                r#"[{"kind":"attributeToAttribute","element":null,"model":"a","value":1,"view":{"key":"k"},"priority":"normal"}]"#,
+                "/0/element",
+            ),
+            (
+                r#"[{"kind":"attributeToAttribute","element":"a","model":null,"value":1,"view":{"key":"k"},"priority":"normal"}]"#,
+                "/0/model",
+            ),
+            (
+                r#"[{"kind":"attributeToAttribute","element":"a","model":"a","value":null,"view":{"key":"k"},"priority":"normal"}]"#,
+                "/0/value",
+            ),
+            (
+                r#"[{"kind":"attributeToAttribute","element":"a","model":"a","value":1,"view":null,"priority":"normal"}]"#,
+                "/0/view",
+            ),
+            (
+                r#"[{"kind":"attributeToAttribute","element":"a","model":"a","value":1,"view":{"key":"k"},"priority":null}]"#,
+                "/0/priority",
+            ),
+            (
+                r#"[{"kind":"attributeToAttribute","element":"a","model":"a","value":1,"view":{"key":"k"},"priority":"normal","surplus":1}]"#,
+                "/0/surplus",
+            ),
+        ],
+    )
+}
+
+/// A marker as a highlight.
+#[test]
+fn marker_to_highlight(rt: HostRuntime) -> Result<(), Fail> {
+    expect_answers(
+        rt.alloc(),
+        true,
+        &[
+            (
+                r#"[{"kind":"markerToHighlight","marker":"a","view":{},"priority":"low"}]"#,
+                "ok",
+            ),
+            (r#"[{"marker":"a","view":{},"priority":"low"}]"#, "/0/kind"),
+            (
+                r#"[{"kind":"markerToHighlight","view":{},"priority":"low"}]"#,
+                "/0/marker",
+            ),
+            (
+                r#"[{"kind":"markerToHighlight","marker":"a","priority":"low"}]"#,
+                "/0/view",
+            ),
+            (
+                r#"[{"kind":"markerToHighlight","marker":"a","view":{}}]"#,
+                "ok",
+            ),
+            (
+                r#"[{"kind":null,"marker":"a","view":{},"priority":"low"}]"#,
+                "/0/kind",
+            ),
+            (
+                r#"[{"kind":"markerToHighlight","marker":null,"view":{},"priority":"low"}]"#,
+                "/0/marker",
+            ),
+            (
+                r#"[{"kind":"markerToHighlight","marker":"a","view":null,"priority":"low"}]"#,
+                "/0/view",
+            ),
+            (
+                r#"[{"kind":"markerToHighlight","marker":"a","view":{},"priority":null}]"#,
+                "/0/priority",
+            ),
+            (
+                r#"[{"kind":"markerToHighlight","marker":"a","view":{},"priority":"low","surplus":1}]"#,
+                "/0/surplus",
+            ),
+        ],
+    )
+}
+
+/// A marker as UI elements.
+#[test]
+fn marker_to_element(rt: HostRuntime) -> Result<(), Fail> {
+    expect_answers(
+        rt.alloc(),
+        true,
+        &[
+            (
+                r#"[{"kind":"markerToElement","marker":"a","view":{"name":"b"},"priority":"lowest"}]"#,
+                "ok",
+            ),
+            (
+                r#"[{"marker":"a","view":{"name":"b"},"priority":"lowest"}]"#,
+                "/0/kind",
+            ),
+            (
+                r#"[{"kind":"markerToElement","view":{"name":"b"},"priority":"lowest"}]"#,
+                "/0/marker",
+            ),
+            (
+                r#"[{"kind":"markerToElement","marker":"a","priority":"lowest"}]"#,
+                "/0/view",
+            ),
+            (
+                r#"[{"kind":"markerToElement","marker":"a","view":{"name":"b"}}]"#,
+                "ok",
+            ),
+            (
+                r#"[{"kind":null,"marker":"a","view":{"name":"b"},"priority":"lowest"}]"#,
+                "/0/kind",
+            ),
+            (
+                r#"[{"kind":"markerToElement","marker":null,"view":{"name":"b"},"priority":"lowest"}]"#,
+                "/0/marker",
+            ),
+            (
+                r#"[{"kind":"markerToElement","marker":"a","view":null,"priority":"lowest"}]"#,
+                "/0/view",
+            ),
+            (
+                r#"[{"kind":"markerToElement","marker":"a","view":{"name":"b"},"priority":null}]"#,
+                "/0/priority",
+            ),
+            (
+                r#"[{"kind":"markerToElement","marker":"a","view":{"name":"b"},"priority":"lowest","surplus":1}]"#,
+                "/0/surplus",
+            ),
+        ],
+    )
+}
+
+/// A product's converter.
+#[test]
+fn custom(rt: HostRuntime) -> Result<(), Fail> {
+    expect_answers(
+        rt.alloc(),
+        true,
+        &[
+            (
+                r#"[{"kind":"custom","name":"a","priority":"highest","index":"a"}]"#,
+                "ok",
+            ),
+            (
+                r#"[{"name":"a","priority":"highest","index":"a"}]"#,
+                "/0/kind",
+            ),
+            (
+                r#"[{"kind":"custom","priority":"highest","index":"a"}]"#,
+                "/0/name",
+            ),
+            (r#"[{"kind":"custom","name":"a","index":"a"}]"#, "ok"),
+            (
+                r#"[{"kind":"custom","name":"a","priority":"highest"}]"#,
+                "ok",
+            ),
+            (
+                r#"[{"kind":null,"name":"a","priority":"highest","index":"a"}]"#,
+                "/0/kind",
+            ),
+            (
+                r#"[{"kind":"custom","name":null,"priority":"highest","index":"a"}]"#,
+                "/0/name",
+            ),
+            (
+                r#"[{"kind":"custom","name":"a","priority":null,"index":"a"}]"#,
+                "/0/priority",
+            ),
+            (
+                r#"[{"kind":"custom","name":"a","priority":"highest","index":null}]"#,
+                "/0/index",
+            ),
+            (
+                r#"[{"kind":"custom","name":"a","priority":"highest","index":"a","surplus":1}]"#,
+                "/0/surplus",
+            ),
+        ],
+    )
+}
+
+/// The view of an element.
+#[test]
+fn view_of_element(rt: HostRuntime) -> Result<(), Fail> {
+    expect_answers(
+        rt.alloc(),
+        true,
+        &[
+            (
+                r#"[{"kind":"elementToElement","model":"a","view":{"name":"p","type":"empty","attributes":{"class":"c"}}}]"#,
+                "ok",
+            ),
+            (
+                r#"[{"kind":"elementToElement","model":"a","view":{"type":"empty","attributes":{"class":"c"}}}]"#,
+                "/0/view/name",
+            ),
+            (
+                r#"[{"kind":"elementToElement","model":"a","view":{"name":"p","attributes":{"class":"c"}}}]"#,
+                "ok",
+            ),
+            (
+                r#"[{"kind":"elementToElement","model":"a","view":{"name":"p","type":"empty"}}]"#,
+                "ok",
+            ),
+            (
+                r#"[{"kind":"elementToElement","model":"a","view":{"name":null,"type":"empty","attributes":{"class":"c"}}}]"#,
+                "/0/view/name",
+            ),
+            (
+                r#"[{"kind":"elementToElement","model":"a","view":{"name":"p","type":null,"attributes":{"class":"c"}}}]"#,
+                "/0/view/type",
+            ),
+            (
+                r#"[{"kind":"elementToElement","model":"a","view":{"name":"p","type":"empty","attributes":null}}]"#,
+                "/0/view/attributes",
+            ),
+            (
+                r#"[{"kind":"elementToElement","model":"a","view":{"name":"p","type":"empty","attributes":{"class":"c"},"surplus":1}}]"#,
+                "/0/view/surplus",
+            ),
+        ],
+    )
+}
+
+/// The view of a shape.
+#[test]
+fn view_of_structure(rt: HostRuntime) -> Result<(), Fail> {
+    expect_answers(
+        rt.alloc(),
+        true,
+        &[
+            (
+                r#"[{"kind":"elementToStructure","model":"a","view":{"name":"p","type":"container","attributes":{"class":"c"},"children":[{"slot":true}]}}]"#,
+                "ok",
+            ),
+            (
+                r#"[{"kind":"elementToStructure","model":"a","view":{"type":"container","attributes":{"class":"c"},"children":[{"slot":true}]}}]"#,
+                "/0/view/name",
+            ),
+            (
+                r#"[{"kind":"elementToStructure","model":"a","view":{"name":"p","attributes":{"class":"c"},"children":[{"slot":true}]}}]"#,
+                "ok",
+            ),
+            (
+                r#"[{"kind":"elementToStructure","model":"a","view":{"name":"p","type":"container","children":[{"slot":true}]}}]"#,
+                "ok",
+            ),
+            (
+                r#"[{"kind":"elementToStructure","model":"a","view":{"name":"p","type":"container","attributes":{"class":"c"}}}]"#,
+                "ok",
+            ),
+            (
+                r#"[{"kind":"elementToStructure","model":"a","view":{"name":null,"type":"container","attributes":{"class":"c"},"children":[{"slot":true}]}}]"#,
+                "/0/view/name",
+            ),
+            (
+                r#"[{"kind":"elementToStructure","model":"a","view":{"name":"p","type":null,"attributes":{"class":"c"},"children":[{"slot":true}]}}]"#,
+                "/0/view/type",
+            ),
+            (
+                r#"[{"kind":"elementToStructure","model":"a","view":{"name":"p","type":"container","attributes":null,"children":[{"slot":true}]}}]"#,
+                "/0/view/attributes",
+            ),
+            (
+                r#"[{"kind":"elementToStructure","model":"a","view":{"name":"p","type":"container","attributes":{"class":"c"},"children":null}}]"#,
+                "/0/view/children",
+            ),
+            (
+                r#"[{"kind":"elementToStructure","model":"a","view":{"name":"p","type":"container","attributes":{"class":"c"},"children":[{"slot":true}],"surplus":1}}]"#,
+                "/0/view/surplus",
+            ),
+        ],
+    )
+}
+
+/// The view of an attribute element.
+#[test]
+fn view_of_layer(rt: HostRuntime) -> Result<(), Fail> {
+    expect_answers(
+        rt.alloc(),
+        true,
+        &[
+            (
+                r#"[{"kind":"attributeToElement","model":"a","view":{"name":"p","attributes":{"class":"c"},"priority":5,"id":"i"}}]"#,
+                "ok",
+            ),
+            (
+                r#"[{"kind":"attributeToElement","model":"a","view":{"attributes":{"class":"c"},"priority":5,"id":"i"}}]"#,
+                "/0/view/name",
+            ),
+            (
+                r#"[{"kind":"attributeToElement","model":"a","view":{"name":"p","priority":5,"id":"i"}}]"#,
+                "ok",
+            ),
+            (
+                r#"[{"kind":"attributeToElement","model":"a","view":{"name":"p","attributes":{"class":"c"},"id":"i"}}]"#,
+                "ok",
+            ),
+            (
+                r#"[{"kind":"attributeToElement","model":"a","view":{"name":"p","attributes":{"class":"c"},"priority":5}}]"#,
+                "ok",
+            ),
+            (
+                r#"[{"kind":"attributeToElement","model":"a","view":{"name":null,"attributes":{"class":"c"},"priority":5,"id":"i"}}]"#,
+                "/0/view/name",
+            ),
+            (
+                r#"[{"kind":"attributeToElement","model":"a","view":{"name":"p","attributes":null,"priority":5,"id":"i"}}]"#,
+                "/0/view/attributes",
+            ),
+            (
+                r#"[{"kind":"attributeToElement","model":"a","view":{"name":"p","attributes":{"class":"c"},"priority":null,"id":"i"}}]"#,
+                "/0/view/priority",
+            ),
+            (
+                r#"[{"kind":"attributeToElement","model":"a","view":{"name":"p","attributes":{"class":"c"},"priority":5,"id":null}}]"#,
+                "/0/view/id",
+            ),
+            (
+                r#"[{"kind":"attributeToElement","model":"a","view":{"name":"p","attributes":{"class":"c"},"priority":5,"id":"i","surplus":1}}]"#,
+                "/0/view/surplus",
+            ),
+        ],
+    )
+}
+
+/// The view of an attribute.
+#[test]
+fn view_of_attribute(rt: HostRuntime) -> Result<(), Fail> {
+    expect_answers(
+        rt.alloc(),
+        true,
+        &[
+            (
+                r#"[{"kind":"attributeToAttribute","model":"a","view":{"key":"k","value":"t"}}]"#,
+                "ok",
+            ),
+            (
+                r#"[{"kind":"attributeToAttribute","model":"a","view":{"value":"t"}}]"#,
+                "/0/view/key",
+            ),
+            (
+                r#"[{"kind":"attributeToAttribute","model":"a","view":{"key":"k"}}]"#,
+                "ok",
+            ),
+            (
+                r#"[{"kind":"attributeToAttribute","model":"a","view":{"key":null,"value":"t"}}]"#,
+                "/0/view/key",
+            ),
+            (
+                r#"[{"kind":"attributeToAttribute","model":"a","view":{"key":"k","value":null}}]"#,
+                "/0/view/value",
+            ),
+            (
+                r#"[{"kind":"attributeToAttribute","model":"a","view":{"key":"k","value":"t","surplus":1}}]"#,
+                "/0/view/surplus",
+            ),
+        ],
+    )
+}
+
+/// The view of a highlight.
+#[test]
+fn view_of_highlight(rt: HostRuntime) -> Result<(), Fail> {
+    expect_answers(
+        rt.alloc(),
+        true,
+        &[
+            (
+                r#"[{"kind":"markerToHighlight","marker":"a","view":{"name":"b","attributes":{"class":"c"},"priority":5,"id":"i"}}]"#,
+                "ok",
+            ),
+            (
+                r#"[{"kind":"markerToHighlight","marker":"a","view":{"attributes":{"class":"c"},"priority":5,"id":"i"}}]"#,
+                "ok",
+            ),
+            (
+                r#"[{"kind":"markerToHighlight","marker":"a","view":{"name":"b","priority":5,"id":"i"}}]"#,
+                "ok",
+            ),
+            (
+                r#"[{"kind":"markerToHighlight","marker":"a","view":{"name":"b","attributes":{"class":"c"},"id":"i"}}]"#,
+                "ok",
+            ),
+            (
+                r#"[{"kind":"markerToHighlight","marker":"a","view":{"name":"b","attributes":{"class":"c"},"priority":5}}]"#,
+                "ok",
+            ),
+            (
+                r#"[{"kind":"markerToHighlight","marker":"a","view":{"name":null,"attributes":{"class":"c"},"priority":5,"id":"i"}}]"#,
+                "/0/view/name",
+            ),
+            (
+                r#"[{"kind":"markerToHighlight","marker":"a","view":{"name":"b","attributes":null,"priority":5,"id":"i"}}]"#,
+                "/0/view/attributes",
+            ),
+            (
+                r#"[{"kind":"markerToHighlight","marker":"a","view":{"name":"b","attributes":{"class":"c"},"priority":null,"id":"i"}}]"#,
+                "/0/view/priority",
+            ),
+            (
+                r#"[{"kind":"markerToHighlight","marker":"a","view":{"name":"b","attributes":{"class":"c"},"priority":5,"id":null}}]"#,
+                "/0/view/id",
+            ),
+            (
+                r#"[{"kind":"markerToHighlight","marker":"a","view":{"name":"b","attributes":{"class":"c"},"priority":5,"id":"i","surplus":1}}]"#,
+                "/0/view/surplus",
+            ),
+        ],
+    )
+}
+
+/// The view of a marker's UI element.
+#[test]
+fn view_of_leaf(rt: HostRuntime) -> Result<(), Fail> {
+    expect_answers(
+        rt.alloc(),
+        true,
+        &[
+            (
+                r#"[{"kind":"markerToElement","marker":"a","view":{"name":"p","attributes":{"class":"c"}}}]"#,
+                "ok",
+            ),
+            (
+                r#"[{"kind":"markerToElement","marker":"a","view":{"attributes":{"class":"c"}}}]"#,
+                "/0/view/name",
+            ),
+            (
+                r#"[{"kind":"markerToElement","marker":"a","view":{"name":"p"}}]"#,
+                "ok",
+            ),
+            (
+                r#"[{"kind":"markerToElement","marker":"a","view":{"name":null,"attributes":{"class":"c"}}}]"#,
+                "/0/view/name",
+            ),
+            (
+                r#"[{"kind":"markerToElement","marker":"a","view":{"name":"p","attributes":null}}]"#,
+                "/0/view/attributes",
+            ),
+            (
+                r#"[{"kind":"markerToElement","marker":"a","view":{"name":"p","attributes":{"class":"c"},"surplus":1}}]"#,
+                "/0/view/surplus",
+            ),
+        ],
+    )
+}
