@@ -10,6 +10,7 @@ use crate::counts::TreeCounts;
 use crate::fault::{Found, OpFault};
 use crate::operation::{Operation, Place, Source};
 use crate::reversal::reverse;
+use ck_base::NoMemory;
 use ck_base::attributes::Attrs;
 use ck_base::name::Name;
 use ck_base::path::Path;
@@ -18,15 +19,14 @@ use model_pos::{Counts, Position, Range};
 use model_tree::id::ElementId;
 use model_tree::items::Items;
 use model_tree::tree::Tree;
-use std::alloc::Global;
-use std::process::Abort;
+use std::alloc::{AllocError, Global};
 use std::test::Fail;
 
 /// A name.
-fn name(alloc: Global, text: &str) -> Result<Name, Fail> {
+fn name(alloc: Global, text: &str) -> Result<Name, NoMemory> {
     match Name::read(alloc, text) {
         Ok(name) => Ok(name),
-        Err(_) => Err(Fail::new("no name")),
+        Err(_) => Err(AllocError),
     }
 }
 
@@ -54,7 +54,7 @@ fn at(alloc: Global, numbers: &[u32]) -> Position
 }
 
 /// The characters of a text, which are bold or have no attributes.
-fn text(alloc: Global, text: &str, bold: bool) -> Result<Items, Fail>
+fn text(alloc: Global, text: &str, bold: bool) -> Result<Items, NoMemory>
     ensures { IfOk result (λ items. length items < 2 ^ 32) }
 {
     let mut attrs = Attrs::new(alloc);
@@ -63,34 +63,41 @@ fn text(alloc: Global, text: &str, bold: bool) -> Result<Items, Fail>
     }
     let items = Items::text(alloc, text, &attrs)?;
     if items.len() > 9 {
-        return Err(Fail::new("a long text"));
+        return Err(AllocError);
     }
     Ok(items)
 }
 
 /// A paragraph with these items.
-fn paragraph(alloc: Global, id: u64, children: Items) -> Result<Items, Fail>
+fn paragraph(alloc: Global, id: u64, children: Items) -> Result<Items, NoMemory>
     requires { id < 2 ^ 63 }
 {
     let p = name(alloc, "paragraph")?;
-    Ok(Items::element(alloc, ElementId::new(id), p, Attrs::new(alloc), children)?)
+    Items::element(alloc, ElementId::new(id), p, Attrs::new(alloc), children)
 }
 
-/// Does an operation.
-fn done(tree: &mut Tree, cells: &mut Cells, operation: &Operation) -> Result<(), Fail> {
+/// Does an operation that only want of memory can refuse.
+fn done(tree: &mut Tree, cells: &mut Cells, operation: &Operation) -> Result<(), NoMemory> {
     match apply(tree, cells, operation) {
         Ok(()) => Ok(()),
-        Err(_) => Err(Fail::new("refused")),
+        Err(_) => Err(AllocError),
     }
 }
 
+/// Does an operation that only want of memory can refuse, and lets it go.
+fn put(tree: &mut Tree, cells: &mut Cells, operation: Operation) -> Result<(), NoMemory> {
+    done(tree, cells, &operation)
+}
+
 /// Puts items in at the start of the root.
-fn put_first(tree: &mut Tree, cells: &mut Cells, alloc: Global, items: Items) -> Result<(), Fail> {
-    let insert = Operation::Insert {
-        at: at(alloc, &[0]),
-        items,
-    };
-    done(tree, cells, &insert)
+fn put_first(
+    tree: &mut Tree,
+    cells: &mut Cells,
+    alloc: Global,
+    items: Items,
+) -> Result<(), NoMemory> {
+    let at = at(alloc, &[0]);
+    put(tree, cells, Operation::Insert { at, items })
 }
 
 /// Takes so many items from the start of the root into a cell.
@@ -100,17 +107,14 @@ fn put_away(
     alloc: Global,
     count: u32,
     cell: u64,
-) -> Result<(), Fail> {
-    let taken = Operation::Move {
-        from: Place::Tree(at(alloc, &[0])),
-        count,
-        to: Place::Cell(cell),
-    };
-    done(tree, cells, &taken)
+) -> Result<(), NoMemory> {
+    let from = Place::Tree(at(alloc, &[0]));
+    let to = Place::Cell(cell);
+    put(tree, cells, Operation::Move { from, count, to })
 }
 
 /// Three paragraphs, `ab` and bold `cd`, `ef`, and an empty one.
-fn sample(alloc: Global) -> Result<Tree, Fail> {
+fn sample(alloc: Global) -> Result<Tree, NoMemory> {
     let mut tree = Tree::new(alloc)?;
     let mut cells = Cells::new(alloc);
     let mut first = text(alloc, "ab", false)?;
@@ -132,7 +136,7 @@ fn sample(alloc: Global) -> Result<Tree, Fail> {
 }
 
 /// A cell with an empty paragraph, and one with `xy`.
-fn sample_cells(alloc: Global) -> Result<Cells, Fail> {
+fn sample_cells(alloc: Global) -> Result<Cells, NoMemory> {
     let mut tree = Tree::new(alloc)?;
     let mut cells = Cells::new(alloc);
     put_first(
@@ -147,32 +151,60 @@ fn sample_cells(alloc: Global) -> Result<Cells, Fail> {
     Ok(cells)
 }
 
-/// Does an operation to the sample and takes it back. Then the tree is what it was, and so are the two cells.
-fn takes_back(
-    rt: &impl Abort,
-    alloc: Global,
-    operation: &Operation,
-    back: &Operation,
-) -> Result<(), Fail> {
-    let (mut tree, mut cells) = (sample(alloc)?, sample_cells(alloc)?);
-    let tree_before = format!(in alloc; "{tree:?}")?;
-    let cells_before = format!(in alloc; "{:?}{:?}", cells.get(0), cells.get(1))?;
-    done(&mut tree, &mut cells, operation)?;
-    assert!(rt; format!(in alloc; "{tree:?}")?.as_str() != tree_before.as_str());
-    done(&mut tree, &mut cells, back)?;
-    assert_eq!(rt;
-        format!(in alloc; "{tree:?}")?.as_str(),
-        tree_before.as_str()
-    );
-    assert_eq!(rt;
-        format!(in alloc; "{:?}{:?}", cells.get(0), cells.get(1))?.as_str(),
-        cells_before.as_str()
-    );
-    Ok(())
+/// The tree and the two cells as a text.
+fn printed(alloc: Global, tree: &Tree, cells: &Cells) -> Result<String, NoMemory> {
+    format!(in alloc; "{tree:?} {:?} {:?}", cells.get(0), cells.get(1))
 }
 
-/// An insertion is taken back.
-fn insertion(rt: &impl Abort, alloc: Global, numbers: &[u32], new: Items) -> Result<(), Fail>
+/// Whether the tree and the two cells are printed so.
+fn is_printed(alloc: Global, tree: &Tree, cells: &Cells, text: &str) -> bool {
+    match printed(alloc, tree, cells) {
+        Ok(now) => now.as_str() == text,
+        Err(_) => false,
+    }
+}
+
+/// Whether an operation changes what is printed so, and the other one takes that back.
+fn returns_to(
+    alloc: Global,
+    tree: &mut Tree,
+    cells: &mut Cells,
+    both: (&Operation, &Operation),
+    before: &str,
+) -> bool {
+    done(tree, cells, both.0).is_ok()
+        && !is_printed(alloc, tree, cells, before)
+        && done(tree, cells, both.1).is_ok()
+        && is_printed(alloc, tree, cells, before)
+}
+
+/// Whether the other operation takes back what the first does to the sample and the two cells.
+fn is_taken_back(alloc: Global, operation: &Operation, back: &Operation) -> bool {
+    let (Ok(mut tree), Ok(mut cells)) = (sample(alloc), sample_cells(alloc)) else {
+        return false;
+    };
+    match printed(alloc, &tree, &cells) {
+        Ok(before) => returns_to(
+            alloc,
+            &mut tree,
+            &mut cells,
+            (operation, back),
+            before.as_str(),
+        ),
+        Err(_) => false,
+    }
+}
+
+/// Whether an operation's reversal takes it back.
+fn takes_back(alloc: Global, operation: Operation, back: Result<Operation, NoMemory>) -> bool {
+    match back {
+        Ok(back) => is_taken_back(alloc, &operation, &back),
+        Err(_) => false,
+    }
+}
+
+/// Whether an insertion is taken back.
+fn insertion(alloc: Global, numbers: &[u32], new: Items) -> bool
     requires some { 0 < length numbers.now }
     requires limits { IsWithinLimits numbers.now }
     requires few { length new < 2 ^ 32 }
@@ -181,12 +213,12 @@ fn insertion(rt: &impl Abort, alloc: Global, numbers: &[u32], new: Items) -> Res
         at: at(alloc, numbers),
         items: new,
     };
-    let back = reverse(alloc, &operation, 2)?;
-    takes_back(rt, alloc, &operation, &back)
+    let back = reverse(alloc, &operation, 2);
+    takes_back(alloc, operation, back)
 }
 
-/// A move within the tree is taken back.
-fn shift(rt: &impl Abort, alloc: Global, from: &[u32], count: u32, to: &[u32]) -> Result<(), Fail>
+/// Whether a move within the tree is taken back.
+fn shift(alloc: Global, from: &[u32], count: u32, to: &[u32]) -> bool
     requires from_some { 0 < length from.now }
     requires from_short { length from.now ≤ 65 }
     requires to_some { 0 < length to.now }
@@ -199,12 +231,12 @@ fn shift(rt: &impl Abort, alloc: Global, from: &[u32], count: u32, to: &[u32]) -
         count,
         to: Place::Tree(at(alloc, to)),
     };
-    let back = reverse(alloc, &operation, 2)?;
-    takes_back(rt, alloc, &operation, &back)
+    let back = reverse(alloc, &operation, 2);
+    takes_back(alloc, operation, back)
 }
 
-/// A split is taken back.
-fn split(rt: &impl Abort, alloc: Global, numbers: &[u32], source: Source) -> Result<(), Fail>
+/// Whether a split is taken back.
+fn split(alloc: Global, numbers: &[u32], source: Source) -> bool
     requires long { 2 ≤ length numbers.now }
     requires limits { IsWithinLimits numbers.now }
     requires behind { IsWithinLimits (behind (parent_of numbers.now)) }
@@ -213,158 +245,328 @@ fn split(rt: &impl Abort, alloc: Global, numbers: &[u32], source: Source) -> Res
         at: at(alloc, numbers),
         source,
     };
-    let back = reverse(alloc, &operation, 2)?;
-    takes_back(rt, alloc, &operation, &back)
+    let back = reverse(alloc, &operation, 2);
+    takes_back(alloc, operation, back)
 }
 
-/// A merge is taken back.
-fn merge(rt: &impl Abort, alloc: Global, right: &[u32], target: &[u32]) -> Result<(), Fail>
-    requires some { 0 < length target.now }
-    requires limits { IsWithinLimits target.now }
-{
-    let operation = Operation::Merge {
-        right: path(alloc, right)?,
-        target: at(alloc, target),
-        cell: 2,
-    };
-    let back = reverse(alloc, &operation, 3)?;
-    takes_back(rt, alloc, &operation, &back)
-}
-
-/// Another value of `bold` on the first paragraph's characters from an offset to another is taken back.
+/// Another value of `bold` on the first paragraph's characters from an offset to another.
 fn bold(
-    rt: &impl Abort,
     alloc: Global,
-    start: u32,
-    end: u32,
+    ends: (u32, u32),
     old: Option<Value>,
     new: Option<Value>,
-) -> Result<(), Fail>
-    requires { start ≤ end }
+) -> Result<Operation, NoMemory>
+    requires { ends.0 ≤ ends.1 }
 {
-    let operation = Operation::Attribute {
-        range: Range::new(at(alloc, &[0, start]), at(alloc, &[0, end])),
+    Ok(Operation::Attribute {
+        range: Range::new(at(alloc, &[0, ends.0]), at(alloc, &[0, ends.1])),
         key: name(alloc, "bold")?,
         old,
         new,
+    })
+}
+
+/// A character between equal ones comes in.
+#[test]
+fn insertion_between_equal_characters(rt: HostRuntime) -> Result<(), Fail> {
+    let alloc = rt.alloc();
+    assert!(rt; insertion(alloc, &[0, 1], text(alloc, "b", false)?));
+    Ok(())
+}
+
+/// A character between others comes in.
+#[test]
+fn insertion_between_others(rt: HostRuntime) -> Result<(), Fail> {
+    let alloc = rt.alloc();
+    assert!(rt; insertion(alloc, &[0, 2], text(alloc, "z", true)?));
+    Ok(())
+}
+
+/// A character comes into an empty element.
+#[test]
+fn insertion_into_nothing(rt: HostRuntime) -> Result<(), Fail> {
+    let alloc = rt.alloc();
+    assert!(rt; insertion(alloc, &[2, 0], text(alloc, "z", false)?));
+    Ok(())
+}
+
+/// A run goes across two texts into an empty element.
+#[test]
+fn move_across_texts(rt: HostRuntime) {
+    assert!(rt; shift(rt.alloc(), &[0, 1], 2, &[2, 0]));
+}
+
+/// An element goes into the one before it.
+#[test]
+fn move_of_an_element(rt: HostRuntime) {
+    assert!(rt; shift(rt.alloc(), &[1], 1, &[0, 0]));
+}
+
+/// A run goes on in its own list.
+#[test]
+fn move_in_a_list(rt: HostRuntime) {
+    assert!(rt; shift(rt.alloc(), &[0, 0], 1, &[0, 4]));
+}
+
+/// An element is split between two texts.
+#[test]
+fn split_between_texts(rt: HostRuntime) {
+    assert!(rt; split(rt.alloc(), &[0, 2], Source::Fresh(ElementId::new(7))));
+}
+
+/// An element is split in a text, and the second half is an element from a cell.
+#[test]
+fn split_with_a_cell(rt: HostRuntime) {
+    assert!(rt; split(rt.alloc(), &[1, 1], Source::Cell(0)));
+}
+
+/// Two elements are merged.
+#[test]
+fn merge_of_two(rt: HostRuntime) -> Result<(), Fail> {
+    let alloc = rt.alloc();
+    let merge = Operation::Merge {
+        right: path(alloc, &[1])?,
+        target: at(alloc, &[0, 4]),
+        cell: 2,
     };
-    let back = reverse(alloc, &operation, 2)?;
-    takes_back(rt, alloc, &operation, &back)
+    let back = reverse(alloc, &merge, 3);
+    assert!(rt; takes_back(alloc, merge, back));
+    Ok(())
 }
 
-/// What comes in is taken out again: at the start, between equal characters, between others, at an end, and in the root.
+/// An attribute is taken away.
 #[test]
-fn insertions(rt: HostRuntime) -> Result<(), Fail> {
+fn attribute_taken_away(rt: HostRuntime) -> Result<(), Fail> {
     let alloc = rt.alloc();
-    insertion(&rt, alloc, &[0, 0], text(alloc, "z", false)?)?;
-    insertion(&rt, alloc, &[0, 1], text(alloc, "b", false)?)?;
-    insertion(&rt, alloc, &[0, 2], text(alloc, "z", true)?)?;
-    insertion(&rt, alloc, &[0, 4], text(alloc, "z", true)?)?;
-    insertion(&rt, alloc, &[2, 0], text(alloc, "z", false)?)?;
-    insertion(&rt, alloc, &[3], text(alloc, "z", false)?)
+    let plain = bold(alloc, (2, 4), Some(Value::Truth(true)), None)?;
+    let back = reverse(alloc, &plain, 2);
+    assert!(rt; takes_back(alloc, plain, back));
+    Ok(())
 }
 
-/// A run goes across two texts, all of an element goes, an element goes to either side, and a run goes on in its own list.
+/// An attribute is given.
 #[test]
-fn moves(rt: HostRuntime) -> Result<(), Fail> {
+fn attribute_given(rt: HostRuntime) -> Result<(), Fail> {
     let alloc = rt.alloc();
-    shift(&rt, alloc, &[0, 1], 2, &[2, 0])?;
-    shift(&rt, alloc, &[0, 0], 4, &[1, 2])?;
-    shift(&rt, alloc, &[2], 1, &[0])?;
-    shift(&rt, alloc, &[0], 1, &[3])?;
-    shift(&rt, alloc, &[0, 0], 1, &[0, 4])?;
-    shift(&rt, alloc, &[1], 1, &[0, 0])
+    let bold = bold(alloc, (0, 2), None, Some(Value::Truth(true)))?;
+    let back = reverse(alloc, &bold, 2);
+    assert!(rt; takes_back(alloc, bold, back));
+    Ok(())
 }
 
-/// Elements are split at the start, between two texts, in a text and at the end, and merged with and without items in them.
+/// A new name and the old one.
 #[test]
-fn halves(rt: HostRuntime) -> Result<(), Fail> {
-    let alloc = rt.alloc();
-    split(&rt, alloc, &[0, 0], Source::Fresh(ElementId::new(7)))?;
-    split(&rt, alloc, &[0, 2], Source::Fresh(ElementId::new(7)))?;
-    split(&rt, alloc, &[1, 1], Source::Cell(0))?;
-    split(&rt, alloc, &[1, 2], Source::Cell(0))?;
-    merge(&rt, alloc, &[1], &[0, 4])?;
-    merge(&rt, alloc, &[2], &[1, 2])
-}
-
-/// Attributes are given and taken away.
-#[test]
-fn attributes(rt: HostRuntime) -> Result<(), Fail> {
-    let alloc = rt.alloc();
-    bold(&rt, alloc, 2, 4, Some(Value::Truth(true)), None)?;
-    bold(
-        &rt,
-        alloc,
-        2,
-        3,
-        Some(Value::Truth(true)),
-        Some(Value::Whole(1)),
-    )?;
-    bold(&rt, alloc, 0, 2, None, Some(Value::Truth(true)))
-}
-
-/// A new name and the old one, and runs that go into a cell and come out of one.
-#[test]
-fn names_and_cells(rt: HostRuntime) -> Result<(), Fail> {
+fn new_name(rt: HostRuntime) -> Result<(), Fail> {
     let alloc = rt.alloc();
     let rename = Operation::Rename {
         path: path(alloc, &[2])?,
         old: name(alloc, "paragraph")?,
         new: name(alloc, "quote")?,
     };
-    takes_back(&rt, alloc, &rename, &reverse(alloc, &rename, 2)?)?;
+    let back = reverse(alloc, &rename, 2);
+    assert!(rt; takes_back(alloc, rename, back));
+    Ok(())
+}
+
+/// A run goes into a cell, by a copy of the operation.
+#[test]
+fn run_into_a_cell(rt: HostRuntime) -> Result<(), Fail> {
+    let alloc = rt.alloc();
     let taken = Operation::Move {
         from: Place::Tree(at(alloc, &[0, 1])),
         count: 3,
         to: Place::Cell(2),
     };
-    takes_back(&rt, alloc, &taken.copy()?, &reverse(alloc, &taken, 3)?)?;
+    let back = reverse(alloc, &taken, 3);
+    assert!(rt; takes_back(alloc, taken.copy()?, back));
+    Ok(())
+}
+
+/// A run comes out of a cell.
+#[test]
+fn run_out_of_a_cell(rt: HostRuntime) {
+    let alloc = rt.alloc();
     let brought = Operation::Move {
         from: Place::Cell(1),
         count: 2,
         to: Place::Tree(at(alloc, &[1, 2])),
     };
-    takes_back(&rt, alloc, &brought, &reverse(alloc, &brought, 2)?)
+    let back = reverse(alloc, &brought, 2);
+    assert!(rt; takes_back(alloc, brought, back));
 }
 
-/// Worked rows: what a split with an element from a cell and a merge leave.
+/// How many items the first element of a tree has.
+fn first_count(alloc: Global, tree: &Tree) -> Option<u32> {
+    let mut path = Path::new(alloc);
+    path.push(0);
+    TreeCounts(tree).child_count(&path)
+}
+
+/// How many items the first element has after an operation on the sample; none where it isn't done.
+fn count_after(alloc: Global, operation: Operation) -> Option<u32> {
+    let (Ok(mut tree), Ok(mut cells)) = (sample(alloc), sample_cells(alloc)) else {
+        return None;
+    };
+    if done(&mut tree, &mut cells, &operation).is_ok() {
+        first_count(alloc, &tree)
+    } else {
+        None
+    }
+}
+
+/// The front half of an element that is split.
 #[test]
-fn worked(rt: HostRuntime) -> Result<(), Fail> {
+fn front_half(rt: HostRuntime) {
     let alloc = rt.alloc();
-    let (mut tree, mut cells) = (sample(alloc)?, sample_cells(alloc)?.copy()?);
     let split = Operation::Split {
         at: at(alloc, &[0, 3]),
         source: Source::Cell(0),
     };
-    done(&mut tree, &mut cells, &split)?;
-    let (first, second) = (path(alloc, &[0])?, path(alloc, &[1])?);
-    assert_eq!(rt; TreeCounts(&tree).child_count(&first), Some(3));
-    assert_eq!(rt; TreeCounts(&tree).child_count(&second), Some(1));
-    assert_eq!(rt; cells.get(0).map(|items| items.len()), Some(0));
+    assert_eq!(rt; count_after(alloc, split), Some(3));
+}
+
+/// The element that two merged ones become.
+#[test]
+fn both_in_one(rt: HostRuntime) -> Result<(), Fail> {
+    let alloc = rt.alloc();
     let merge = Operation::Merge {
-        right: path(alloc, &[2])?,
-        target: at(alloc, &[1, 1]),
+        right: path(alloc, &[1])?,
+        target: at(alloc, &[0, 4]),
         cell: 2,
     };
-    done(&mut tree, &mut cells, &merge)?;
-    assert_eq!(rt; TreeCounts(&tree).child_count(&second), Some(3));
-    assert_eq!(rt; TreeCounts(&tree).child_count(&path(alloc, &[])?), Some(3));
-    assert_eq!(rt; cells.get(2).map(|items| items.count()), Some(1));
+    assert_eq!(rt; count_after(alloc, merge), Some(6));
     Ok(())
 }
 
-/// Why an operation on the sample is refused.
-fn refusal(alloc: Global, operation: &Operation) -> Result<OpFault, Fail> {
-    let (mut tree, mut cells) = (sample(alloc)?, sample_cells(alloc)?);
-    match apply(&mut tree, &mut cells, operation) {
-        Ok(()) => Err(Fail::new("done")),
-        Err(fault) => Ok(fault),
+/// How many items a cell has at all depths, and in its list.
+fn cell_counts(cells: &Cells, cell: u64) -> Option<(u64, u64)> {
+    cells.get(cell).map(|items| (items.count(), items.len()))
+}
+
+#[test]
+fn cells_are_copied(rt: HostRuntime) -> Result<(), Fail> {
+    let copied = sample_cells(rt.alloc())?.copy()?;
+    assert!(rt; cell_counts(&copied, 1) == Some((2, 2)));
+    Ok(())
+}
+
+/// The place of a fault in their order, which is 9 for want of memory; that of a limit is 10 more where the number is the right one.
+fn place(fault: OpFault) -> u8 {
+    match fault {
+        OpFault::NoPlace => 1,
+        OpFault::NotFlat => 2,
+        OpFault::IntoItself => 3,
+        OpFault::OldDiffers(Found::Name(_)) => 4,
+        OpFault::OldDiffers(_) => 9,
+        OpFault::NotNeighbours => 5,
+        OpFault::CellState(_) => 6,
+        OpFault::TooLarge(1_048_585) => 17,
+        OpFault::TooLarge(_) => 7,
+        OpFault::TooDeep(65) => 18,
+        OpFault::TooDeep(_) => 8,
+        OpFault::NoMemory => 9,
     }
 }
 
+/// The place of the fault of an operation on the sample: 0 where it is done.
+fn refusal(alloc: Global, operation: Operation) -> u8 {
+    let (Ok(mut tree), Ok(mut cells)) = (sample(alloc), sample_cells(alloc)) else {
+        return 9;
+    };
+    match apply(&mut tree, &mut cells, &operation) {
+        Ok(()) => 0,
+        Err(fault) => place(fault),
+    }
+}
+
+#[test]
+fn refuses_a_place_behind_the_end(rt: HostRuntime) -> Result<(), Fail> {
+    let alloc = rt.alloc();
+    let items = text(alloc, "z", false)?;
+    let at = at(alloc, &[0, 5]);
+    assert_eq!(rt; refusal(alloc, Operation::Insert { at, items }), 1);
+    Ok(())
+}
+
+#[test]
+fn refuses_a_range_across_elements(rt: HostRuntime) -> Result<(), Fail> {
+    let alloc = rt.alloc();
+    let across = Operation::Attribute {
+        range: Range::new(at(alloc, &[0, 1]), at(alloc, &[1, 1])),
+        key: name(alloc, "bold")?,
+        old: None,
+        new: None,
+    };
+    assert_eq!(rt; refusal(alloc, across), 2);
+    Ok(())
+}
+
+#[test]
+fn refuses_a_move_into_itself(rt: HostRuntime) {
+    let alloc = rt.alloc();
+    let inside = Operation::Move {
+        from: Place::Tree(at(alloc, &[0])),
+        count: 1,
+        to: Place::Tree(at(alloc, &[0, 1])),
+    };
+    assert_eq!(rt; refusal(alloc, inside), 3);
+}
+
+#[test]
+fn refuses_another_old_name(rt: HostRuntime) -> Result<(), Fail> {
+    let alloc = rt.alloc();
+    let named = Operation::Rename {
+        path: path(alloc, &[0])?,
+        old: name(alloc, "quote")?,
+        new: name(alloc, "quote")?,
+    };
+    assert_eq!(rt; refusal(alloc, named), 4);
+    Ok(())
+}
+
+#[test]
+fn refuses_elements_apart(rt: HostRuntime) -> Result<(), Fail> {
+    let alloc = rt.alloc();
+    let apart = Operation::Merge {
+        right: path(alloc, &[1])?,
+        target: at(alloc, &[0, 3]),
+        cell: 2,
+    };
+    assert_eq!(rt; refusal(alloc, apart), 5);
+    Ok(())
+}
+
+#[test]
+fn refuses_a_cell_of_characters(rt: HostRuntime) {
+    let alloc = rt.alloc();
+    let full = Operation::Split {
+        at: at(alloc, &[0, 3]),
+        source: Source::Cell(1),
+    };
+    assert_eq!(rt; refusal(alloc, full), 6);
+}
+
+/// A text of 2^20 characters.
+fn many(alloc: Global) -> Result<Items, NoMemory> {
+    let mut many = text(alloc, "z", false)?;
+    for _ in 0..20 {
+        let more = many.copy()?;
+        many.append(more)?;
+    }
+    Ok(many)
+}
+
+#[test]
+fn refuses_too_many_items(rt: HostRuntime) -> Result<(), Fail> {
+    let alloc = rt.alloc();
+    let items = many(alloc)?;
+    let at = at(alloc, &[2, 0]);
+    assert_eq!(rt; refusal(alloc, Operation::Insert { at, items }), 17);
+    Ok(())
+}
+
 /// So many items in one another.
-fn nest(alloc: Global, levels: u64) -> Result<Items, Fail> {
+fn nest(alloc: Global, levels: u64) -> Result<Items, NoMemory> {
     let mut items = Items::new(alloc)?;
     for level in 0..levels {
         items = paragraph(alloc, 10 + level % 100, items)?;
@@ -372,66 +574,11 @@ fn nest(alloc: Global, levels: u64) -> Result<Items, Fail> {
     Ok(items)
 }
 
-/// Each refusal once.
 #[test]
-fn refusals(rt: HostRuntime) -> Result<(), Fail> {
+fn refuses_too_many_levels(rt: HostRuntime) -> Result<(), Fail> {
     let alloc = rt.alloc();
-    let behind = Operation::Insert {
-        at: at(alloc, &[0, 5]),
-        items: text(alloc, "z", false)?,
-    };
-    assert!(rt; matches!(refusal(alloc, &behind)?, OpFault::NoPlace));
-    let across = Operation::Attribute {
-        range: Range::new(at(alloc, &[0, 1]), at(alloc, &[1, 1])),
-        key: name(alloc, "bold")?,
-        old: None,
-        new: None,
-    };
-    assert!(rt; matches!(refusal(alloc, &across)?, OpFault::NotFlat));
-    let inside = Operation::Move {
-        from: Place::Tree(at(alloc, &[0])),
-        count: 1,
-        to: Place::Tree(at(alloc, &[0, 1])),
-    };
-    assert!(rt; matches!(refusal(alloc, &inside)?, OpFault::IntoItself));
-    let named = Operation::Rename {
-        path: path(alloc, &[0])?,
-        old: name(alloc, "quote")?,
-        new: name(alloc, "quote")?,
-    };
-    assert!(rt; matches!(refusal(alloc, &named)?, OpFault::OldDiffers(Found::Name(_))));
-    Ok(())
-}
-
-/// Each refusal of cells and limits once.
-#[test]
-fn refused_cells_and_limits(rt: HostRuntime) -> Result<(), Fail> {
-    let alloc = rt.alloc();
-    let apart = Operation::Merge {
-        right: path(alloc, &[1])?,
-        target: at(alloc, &[0, 3]),
-        cell: 2,
-    };
-    assert!(rt; matches!(refusal(alloc, &apart)?, OpFault::NotNeighbours));
-    let full = Operation::Split {
-        at: at(alloc, &[0, 3]),
-        source: Source::Cell(1),
-    };
-    assert!(rt; matches!(refusal(alloc, &full)?, OpFault::CellState(1)));
-    let deep = Operation::Insert {
-        at: at(alloc, &[2, 0]),
-        items: nest(alloc, 64)?,
-    };
-    assert!(rt; matches!(refusal(alloc, &deep)?, OpFault::TooDeep(65)));
-    let mut many = text(alloc, "z", false)?;
-    for _ in 0..20 {
-        let more = many.copy()?;
-        many.append(more)?;
-    }
-    let large = Operation::Insert {
-        at: at(alloc, &[2, 0]),
-        items: many,
-    };
-    assert!(rt; matches!(refusal(alloc, &large)?, OpFault::TooLarge(1_048_585)));
+    let items = nest(alloc, 64)?;
+    let at = at(alloc, &[2, 0]);
+    assert_eq!(rt; refusal(alloc, Operation::Insert { at, items }), 18);
     Ok(())
 }

@@ -129,46 +129,18 @@ fn insertion(alloc: Global, numbers: &[u32]) -> Shift
     }
 }
 
-/// The removal of some items.
-fn removal(alloc: Global, numbers: &[u32], count: u32) -> Shift
-    requires some { 0 < length numbers.now }
-    requires short { length numbers.now ≤ 65 }
-    ensures { shift_of result ≡ meant.remove numbers.now count }
-{
-    Shift::Remove {
-        at: at(alloc, numbers),
-        count,
-    }
-}
-
-/// Ranges around two items that come in, and some that go.
+/// A range moves behind two items that come in at its start.
 #[test]
-fn carried_ranges(rt: HostRuntime) {
+fn carried_by_an_insertion(rt: HostRuntime) {
     let a = rt.alloc();
     let some = range(a, &[0, 1], &[0, 3]);
-    let none = range(a, &[0, 1], &[0, 1]);
     let start = insertion(a, &[0, 1]);
     carries(&rt, &some, &start, &range(a, &[0, 3], &[0, 5]));
-    carries(&rt, &none, &start, &range(a, &[0, 3], &[0, 3]));
-    carries(
-        &rt,
-        &some,
-        &insertion(a, &[0, 3]),
-        &range(a, &[0, 1], &[0, 3]),
-    );
-    carries(
-        &rt,
-        &some,
-        &removal(a, &[0, 2], 5),
-        &range(a, &[0, 1], &[0, 2]),
-    );
-    carries(&rt, &some, &removal(a, &[0], 1), &range(a, &[0], &[0]));
-    carries(&rt, &some, &Shift::Stay, &some);
 }
 
-/// Ranges in a run that moves, at its edge, and partly in it.
+/// A range in a run goes where the run does.
 #[test]
-fn carried_runs(rt: HostRuntime) {
+fn carried_with_a_run(rt: HostRuntime) {
     let a = rt.alloc();
     let shift = Shift::Move {
         from: at(a, &[0, 1]),
@@ -177,21 +149,12 @@ fn carried_runs(rt: HostRuntime) {
     };
     let whole = range(a, &[0, 1], &[0, 3]);
     carries(&rt, &whole, &shift, &range(a, &[2], &[4]));
-    let edge = range(a, &[0, 1], &[0, 1]);
-    carries(&rt, &edge, &shift, &edge);
-    let part = range(a, &[0, 0], &[0, 2]);
-    carries(&rt, &part, &shift, &range(a, &[0, 0], &[0, 1]));
 }
 
-/// Ranges around an element that is split, and one that is merged.
+/// A range that ends in the element that is merged into the one before goes on to its end there.
 #[test]
-fn carried_halves(rt: HostRuntime) {
+fn carried_by_a_merge(rt: HostRuntime) {
     let a = rt.alloc();
-    let some = range(a, &[0, 1], &[0, 3]);
-    let start = Shift::Split { at: at(a, &[0, 1]) };
-    carries(&rt, &some, &start, &range(a, &[1, 0], &[1, 2]));
-    let end = Shift::Split { at: at(a, &[0, 3]) };
-    carries(&rt, &some, &end, &some);
     let Some(right) = Path::from_slice(a, &[1]) else {
         unreachable!();
     };
@@ -201,6 +164,4 @@ fn carried_halves(rt: HostRuntime) {
     };
     let both = range(a, &[0, 1], &[1, 2]);
     carries(&rt, &both, &merge, &range(a, &[0, 1], &[0, 6]));
-    let around = range(a, &[1], &[2]);
-    carries(&rt, &around, &merge, &range(a, &[0, 4], &[1]));
 }

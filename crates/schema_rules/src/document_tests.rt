@@ -70,22 +70,47 @@ fn chain(alloc: Global, schema: &Schema, names: &[&str], key: &str) -> Result<St
     breach_text(alloc, schema.first_breach(&tree)?)
 }
 
-/// Whether the rows on elements in elements hold.
-fn chains_hold(alloc: Global, schema: &Schema) -> Result<bool, Fail> {
-    Ok(
-        chain(alloc, schema, &["quote", "quote", "paragraph"], "")?.as_str() == "none"
-            && chain(alloc, schema, &["quote", "quote", "quote", "mention"], "")?.as_str()
-                == "child quote quote [0, 0, 0]"
-            && chain(alloc, schema, &[], "")?.as_str() == "child $text $root [0]"
-            && chain(alloc, schema, &["paragraph"], "id")?.as_str() == "attribute id $text [0, 0]"
-            && chain(alloc, schema, &["image"], "id")?.as_str() == "child $text image [0, 0]",
-    )
+/// Whether the sample breaks there with this text.
+fn breaks(alloc: Global, names: &[&str], key: &str, wanted: &str) -> Result<bool, Fail> {
+    let schema = sample(alloc)?;
+    let found = chain(alloc, &schema, names, key)?;
+    Ok(found.as_str() == wanted)
 }
 
 #[test]
-fn tells_the_first_breach(rt: HostRuntime) -> Result<(), Fail> {
-    let schema = sample(rt.alloc())?;
-    assert!(rt; chains_hold(rt.alloc(), &schema)?);
+fn a_text_in_quotes(rt: HostRuntime) -> Result<(), Fail> {
+    let names = ["quote", "quote", "paragraph"];
+    let same = breaks(rt.alloc(), &names, "", "none")?;
+    assert!(rt; same);
+    Ok(())
+}
+
+/// A breach of an element comes before those in it.
+#[test]
+fn a_quote_too_many(rt: HostRuntime) -> Result<(), Fail> {
+    let names = ["quote", "quote", "quote", "mention"];
+    let same = breaks(rt.alloc(), &names, "", "child quote quote [0, 0, 0]")?;
+    assert!(rt; same);
+    Ok(())
+}
+
+#[test]
+fn an_attribute_too_many(rt: HostRuntime) -> Result<(), Fail> {
+    let same = breaks(
+        rt.alloc(),
+        &["paragraph"],
+        "id",
+        "attribute id $text [0, 0]",
+    )?;
+    assert!(rt; same);
+    Ok(())
+}
+
+/// That a character may not stand there comes before its attributes.
+#[test]
+fn a_text_in_an_image(rt: HostRuntime) -> Result<(), Fail> {
+    let same = breaks(rt.alloc(), &["image"], "id", "child $text image [0, 0]")?;
+    assert!(rt; same);
     Ok(())
 }
 
@@ -118,62 +143,39 @@ fn subtree(alloc: Global, path: &[u32]) -> Result<Spot, Fail> {
     }
 }
 
-/// What the three blocks break among what two spots list.
-fn at_spots(
-    alloc: Global,
-    schema: &Schema,
-    tree: &Tree,
-    first: Spot,
-    second: Spot,
-) -> Result<String, Fail> {
-    let mut spots = Vec::new(alloc);
-    spots.push(first)?;
-    spots.push(second)?;
-    breach_text(alloc, schema.breach_at(tree, spots.as_slice())?)
-}
-
-/// Whether the rows on spots hold.
-fn spots_hold(alloc: Global, schema: &Schema, tree: &Tree) -> Result<bool, Fail> {
-    let run_and_run = at_spots(
-        alloc,
-        schema,
-        tree,
-        run(alloc, &[], 1, 3)?,
-        run(alloc, &[2], 0, 2)?,
-    )?;
-    let run_in_text = at_spots(
-        alloc,
-        schema,
-        tree,
-        run(alloc, &[2], 1, 4)?,
-        run(alloc, &[1], 2, 2)?,
-    )?;
-    let two_subtrees = at_spots(
-        alloc,
-        schema,
-        tree,
-        subtree(alloc, &[2])?,
-        subtree(alloc, &[1])?,
-    )?;
-    let all = at_spots(
-        alloc,
-        schema,
-        tree,
-        run(alloc, &[0], 0, 2)?,
-        run(alloc, &[], 0, 3)?,
-    )?;
-    Ok(
-        run_and_run.as_str() == "none"
-            && run_in_text.as_str() == "attribute id $text [2, 2]"
-            && two_subtrees.as_str() == "child $text image [1, 0]"
-            && all.as_str() == "attribute bold paragraph [0]",
-    )
+/// Whether the three blocks break so among what two spots list.
+fn breaks_at(alloc: Global, first: Spot, second: Spot, wanted: &str) -> Result<bool, Fail> {
+    let schema = sample(alloc)?;
+    let tree = three_blocks(alloc)?;
+    let spots = vec![in alloc; first, second]?;
+    let found = breach_text(alloc, schema.breach_at(&tree, spots.as_slice())?)?;
+    Ok(found.as_str() == wanted)
 }
 
 #[test]
-fn tells_the_first_breach_at_spots(rt: HostRuntime) -> Result<(), Fail> {
-    let schema = sample(rt.alloc())?;
-    let tree = three_blocks(rt.alloc())?;
-    assert!(rt; spots_hold(rt.alloc(), &schema, &tree)?);
+fn nothing_at_two_runs(rt: HostRuntime) -> Result<(), Fail> {
+    let alloc = rt.alloc();
+    let (first, second) = (run(alloc, &[], 1, 3)?, run(alloc, &[2], 0, 2)?);
+    let same = breaks_at(alloc, first, second, "none")?;
+    assert!(rt; same);
+    Ok(())
+}
+
+#[test]
+fn a_run_that_ends_in_a_text(rt: HostRuntime) -> Result<(), Fail> {
+    let alloc = rt.alloc();
+    let (first, second) = (run(alloc, &[2], 1, 4)?, run(alloc, &[1], 2, 2)?);
+    let same = breaks_at(alloc, first, second, "attribute id $text [2, 2]")?;
+    assert!(rt; same);
+    Ok(())
+}
+
+/// The first in document order, and not in that of the spots.
+#[test]
+fn two_elements_with_all_in_them(rt: HostRuntime) -> Result<(), Fail> {
+    let alloc = rt.alloc();
+    let (first, second) = (subtree(alloc, &[2])?, subtree(alloc, &[1])?);
+    let same = breaks_at(alloc, first, second, "child $text image [1, 0]")?;
+    assert!(rt; same);
     Ok(())
 }

@@ -72,7 +72,8 @@ pub fn sample(alloc: Global) -> Result<Schema, Fail> {
 
 /// How many of these ancestors remain with one that allows an item; 0 where none does, and 10 more where all remain and the item may stand
 /// there.
-fn standing(alloc: Global, schema: &Schema, above: &[&str], item: &str) -> Result<usize, Fail> {
+fn standing(alloc: Global, above: &[&str], item: &str) -> Result<usize, Fail> {
+    let schema = sample(alloc)?;
     let ancestors = names(alloc, above)?;
     let item = Name::read(alloc, item)?;
     let remain = schema
@@ -85,23 +86,40 @@ fn standing(alloc: Global, schema: &Schema, above: &[&str], item: &str) -> Resul
     }
 }
 
-/// Whether the sample's rows on children hold.
-fn children_hold(alloc: Global, schema: &Schema) -> Result<bool, Fail> {
-    Ok(
-        standing(alloc, schema, &["$root"], "heading")? == 11
-            && standing(alloc, schema, &["$root", "heading"], "$text")? == 12
-            && standing(alloc, schema, &["$root"], "mention")? == 0
-            && standing(alloc, schema, &["$root", "heading"], "paragraph")? == 1
-            && standing(alloc, schema, &["$root", "image"], "paragraph")? == 0
-            && standing(alloc, schema, &["$root", "quote"], "quote")? == 12
-            && standing(alloc, schema, &["$root", "quote", "quote"], "quote")? == 2,
-    )
+#[test]
+fn an_item_stands_in_its_parent(rt: HostRuntime) -> Result<(), Fail> {
+    let remain = standing(rt.alloc(), &["$root", "heading"], "$text")?;
+    assert_eq!(rt; remain, 12);
+    Ok(())
 }
 
 #[test]
-fn tells_what_may_stand_where(rt: HostRuntime) -> Result<(), Fail> {
-    let schema = sample(rt.alloc())?;
-    assert!(rt; children_hold(rt.alloc(), &schema)?);
+fn an_item_stands_nowhere(rt: HostRuntime) -> Result<(), Fail> {
+    let remain = standing(rt.alloc(), &["$root"], "mention")?;
+    assert_eq!(rt; remain, 0);
+    Ok(())
+}
+
+#[test]
+fn an_item_stands_further_out(rt: HostRuntime) -> Result<(), Fail> {
+    let remain = standing(rt.alloc(), &["$root", "heading"], "paragraph")?;
+    assert_eq!(rt; remain, 1);
+    Ok(())
+}
+
+/// A limit is the last that is tried.
+#[test]
+fn an_item_stays_in_a_limit(rt: HostRuntime) -> Result<(), Fail> {
+    let remain = standing(rt.alloc(), &["$root", "image"], "paragraph")?;
+    assert_eq!(rt; remain, 0);
+    Ok(())
+}
+
+/// A check decides before the entries.
+#[test]
+fn an_item_is_kept_out_by_a_check(rt: HostRuntime) -> Result<(), Fail> {
+    let remain = standing(rt.alloc(), &["$root", "quote", "quote"], "quote")?;
+    assert_eq!(rt; remain, 2);
     Ok(())
 }
 
@@ -146,29 +164,40 @@ fn tells_what_items_are(rt: HostRuntime) -> Result<(), Fail> {
 }
 
 /// Whether an item behind the root may have an attribute.
-fn may_have(alloc: Global, schema: &Schema, item: &str, key: &str) -> Result<bool, Fail> {
+fn may_have(alloc: Global, item: &str, key: &str) -> Result<bool, Fail> {
+    let schema = sample(alloc)?;
     let ancestors = names(alloc, &["$root"])?;
     let item = Name::read(alloc, item)?;
     let key = Name::read(alloc, key)?;
     Ok(schema.check_attribute(ancestors.as_slice(), &item, &key))
 }
 
-/// Whether the sample's rows on attributes and on lists of items hold.
-fn lists_hold(alloc: Global, schema: &Schema) -> Result<bool, Fail> {
-    let objects = names(alloc, &["$inlineObject", "mention"])?;
-    Ok(
-        may_have(alloc, schema, "heading", "id")?
-            && !may_have(alloc, schema, "$text", "id")?
-            && !may_have(alloc, schema, "heading", "mention")?
-            && schema.registered()?.len() == 11
-            && schema.inline_objects()?.as_slice() == objects.as_slice(),
-    )
+#[test]
+fn an_item_has_what_another_has(rt: HostRuntime) -> Result<(), Fail> {
+    let allowed = may_have(rt.alloc(), "heading", "id")?;
+    assert!(rt; allowed);
+    Ok(())
 }
 
 #[test]
-fn tells_attributes_and_items(rt: HostRuntime) -> Result<(), Fail> {
-    let schema = sample(rt.alloc())?;
-    assert!(rt; lists_hold(rt.alloc(), &schema)?);
+fn an_item_has_no_other_attribute(rt: HostRuntime) -> Result<(), Fail> {
+    let allowed = may_have(rt.alloc(), "$text", "id")?;
+    assert!(rt; !allowed);
+    Ok(())
+}
+
+/// How many items the sample registers, and how many of them are objects in the text.
+fn counts(alloc: Global) -> Result<(usize, usize), Fail> {
+    let schema = sample(alloc)?;
+    let registered = schema.registered()?.len();
+    let objects = schema.inline_objects()?.len();
+    Ok((registered, objects))
+}
+
+#[test]
+fn tells_its_items(rt: HostRuntime) -> Result<(), Fail> {
+    let counts = counts(rt.alloc())?;
+    assert!(rt; counts == (11, 2));
     Ok(())
 }
 
@@ -228,11 +257,31 @@ fn refusal_with(alloc: Global, item: &str, other: &str, last: &[&str]) -> Result
 }
 
 #[test]
-fn refuses_in_order(rt: HostRuntime) -> Result<(), Fail> {
-    let alloc = rt.alloc();
-    assert_eq!(rt; refusal_with(alloc, "table", "$block", &["quote"])?, 0);
-    assert_eq!(rt; refusal_with(alloc, "quote", "row", &[])?, 1);
-    assert_eq!(rt; refusal_with(alloc, "table", "row", &[])?, 2);
-    assert_eq!(rt; refusal_with(alloc, "table", "$block", &[])?, 3);
+fn reads_a_sample(rt: HostRuntime) -> Result<(), Fail> {
+    let refusal = refusal_with(rt.alloc(), "table", "$block", &["quote"])?;
+    assert_eq!(rt; refusal, 0);
+    Ok(())
+}
+
+/// An item that is registered twice goes before one that is none.
+#[test]
+fn refuses_an_item_twice(rt: HostRuntime) -> Result<(), Fail> {
+    let refusal = refusal_with(rt.alloc(), "quote", "row", &[])?;
+    assert_eq!(rt; refusal, 1);
+    Ok(())
+}
+
+/// A name that is no item goes before a check without ancestors.
+#[test]
+fn refuses_what_is_no_item(rt: HostRuntime) -> Result<(), Fail> {
+    let refusal = refusal_with(rt.alloc(), "table", "row", &[])?;
+    assert_eq!(rt; refusal, 2);
+    Ok(())
+}
+
+#[test]
+fn refuses_a_check_without_ancestors(rt: HostRuntime) -> Result<(), Fail> {
+    let refusal = refusal_with(rt.alloc(), "table", "$block", &[])?;
+    assert_eq!(rt; refusal, 3);
     Ok(())
 }
