@@ -249,21 +249,21 @@ fn split(alloc: Global, numbers: &[u32], source: Source) -> bool
     takes_back(alloc, operation, back)
 }
 
-/// Another value of `bold` on the first paragraph's characters from an offset to another.
-fn bold(
-    alloc: Global,
-    ends: (u32, u32),
-    old: Option<Value>,
-    new: Option<Value>,
-) -> Result<Operation, NoMemory>
-    requires { ends.0 ≤ ends.1 }
+/// Whether another value of `bold` on the first paragraph's characters from an offset to another is taken back.
+fn bold(alloc: Global, start: u32, end: u32, old: Option<Value>, new: Option<Value>) -> bool
+    requires { start ≤ end }
 {
-    Ok(Operation::Attribute {
-        range: Range::new(at(alloc, &[0, ends.0]), at(alloc, &[0, ends.1])),
-        key: name(alloc, "bold")?,
+    let Ok(key) = name(alloc, "bold") else {
+        return false;
+    };
+    let operation = Operation::Attribute {
+        range: Range::new(at(alloc, &[0, start]), at(alloc, &[0, end])),
+        key,
         old,
         new,
-    })
+    };
+    let back = reverse(alloc, &operation, 2);
+    takes_back(alloc, operation, back)
 }
 
 /// A character between equal ones comes in.
@@ -336,22 +336,14 @@ fn merge_of_two(rt: HostRuntime) -> Result<(), Fail> {
 
 /// An attribute is taken away.
 #[test]
-fn attribute_taken_away(rt: HostRuntime) -> Result<(), Fail> {
-    let alloc = rt.alloc();
-    let plain = bold(alloc, (2, 4), Some(Value::Truth(true)), None)?;
-    let back = reverse(alloc, &plain, 2);
-    assert!(rt; takes_back(alloc, plain, back));
-    Ok(())
+fn attribute_taken_away(rt: HostRuntime) {
+    assert!(rt; bold(rt.alloc(), 2, 4, Some(Value::Truth(true)), None));
 }
 
 /// An attribute is given.
 #[test]
-fn attribute_given(rt: HostRuntime) -> Result<(), Fail> {
-    let alloc = rt.alloc();
-    let bold = bold(alloc, (0, 2), None, Some(Value::Truth(true)))?;
-    let back = reverse(alloc, &bold, 2);
-    assert!(rt; takes_back(alloc, bold, back));
-    Ok(())
+fn attribute_given(rt: HostRuntime) {
+    assert!(rt; bold(rt.alloc(), 0, 2, None, Some(Value::Truth(true))));
 }
 
 /// A new name and the old one.
