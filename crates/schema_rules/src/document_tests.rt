@@ -70,11 +70,22 @@ fn chain(alloc: Global, schema: &Schema, names: &[&str], key: &str) -> Result<St
     breach_text(alloc, schema.first_breach(&tree)?)
 }
 
-/// Whether the sample breaks there with this text.
+/// Whether elements of these names, each in the one before it, break this with a text in the last.
+fn is_broken_so(
+    alloc: Global,
+    schema: &Schema,
+    names: &[&str],
+    key: &str,
+    wanted: &str,
+) -> Result<bool, Fail> {
+    let found = chain(alloc, schema, names, key)?;
+    Ok(found.as_str() == wanted)
+}
+
+/// The same by the sample.
 fn breaks(alloc: Global, names: &[&str], key: &str, wanted: &str) -> Result<bool, Fail> {
     let schema = sample(alloc)?;
-    let found = chain(alloc, &schema, names, key)?;
-    Ok(found.as_str() == wanted)
+    is_broken_so(alloc, &schema, names, key, wanted)
 }
 
 #[test]

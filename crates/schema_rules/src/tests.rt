@@ -73,9 +73,9 @@ pub fn sample(alloc: Global) -> Result<Schema, Fail> {
 /// How many of these ancestors remain with one that allows an item; 0 where none does, and 10 more where all remain and the item may stand
 /// there.
 fn standing(alloc: Global, above: &[&str], item: &str) -> Result<usize, Fail> {
-    let schema = sample(alloc)?;
     let ancestors = names(alloc, above)?;
     let item = Name::read(alloc, item)?;
+    let schema = sample(alloc)?;
     let remain = schema
         .allowed_parent(ancestors.as_slice(), &item)
         .unwrap_or(0);
@@ -165,10 +165,10 @@ fn tells_what_items_are(rt: HostRuntime) -> Result<(), Fail> {
 
 /// Whether an item behind the root may have an attribute.
 fn may_have(alloc: Global, item: &str, key: &str) -> Result<bool, Fail> {
-    let schema = sample(alloc)?;
     let ancestors = names(alloc, &["$root"])?;
     let item = Name::read(alloc, item)?;
     let key = Name::read(alloc, key)?;
+    let schema = sample(alloc)?;
     Ok(schema.check_attribute(ancestors.as_slice(), &item, &key))
 }
 
@@ -186,12 +186,17 @@ fn an_item_has_no_other_attribute(rt: HostRuntime) -> Result<(), Fail> {
     Ok(())
 }
 
-/// How many items the sample registers, and how many of them are objects in the text.
-fn counts(alloc: Global) -> Result<(usize, usize), Fail> {
-    let schema = sample(alloc)?;
+/// How many items a schema registers, and how many of them are objects in the text.
+fn counts_of(schema: &Schema) -> Result<(usize, usize), Fail> {
     let registered = schema.registered()?.len();
     let objects = schema.inline_objects()?.len();
     Ok((registered, objects))
+}
+
+/// The same of the sample.
+fn counts(alloc: Global) -> Result<(usize, usize), Fail> {
+    let schema = sample(alloc)?;
+    counts_of(&schema)
 }
 
 #[test]
