@@ -247,16 +247,21 @@ pub(crate) fn place_of(answer: Result<(), EditFault>) -> u8 {
     }
 }
 
-/// Makes an edit, and answers the place of its fault and how many records it left.
-fn makes_this(alloc: Global, document: &mut Document, edit: &Edit) -> (u8, usize) {
-    let Ok(schema) = schema(alloc) else {
-        return (10, 0);
-    };
+/// Makes an edit by a schema, and answers the place of its fault and how many records it left.
+fn makes_by(alloc: Global, document: &mut Document, schema: &Schema, edit: &Edit) -> (u8, usize) {
     match Batch::begin(alloc, document) {
         Ok(mut batch) => {
-            let place = place_of(perform(document, &schema, edit, 1, &mut batch));
+            let place = place_of(perform(document, schema, edit, 1, &mut batch));
             (place, batch.records().len())
         }
+        Err(_) => (10, 0),
+    }
+}
+
+/// The same by the schema of the tests.
+fn makes_this(alloc: Global, document: &mut Document, edit: &Edit) -> (u8, usize) {
+    match schema(alloc) {
+        Ok(schema) => makes_by(alloc, document, &schema, edit),
         Err(_) => (10, 0),
     }
 }

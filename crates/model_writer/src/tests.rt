@@ -8,6 +8,7 @@ use crate::samples::{
 };
 use ck_base::NoMemory;
 use edit_definitions::edit::Edit;
+use model_doc::Document;
 use std::alloc::Global;
 
 /// Whether an edit of the sample is made, with so many records, and leaves a document that is drawn so.
@@ -18,12 +19,21 @@ fn changes(alloc: Global, edit: Result<Edit, NoMemory>, records: usize, wanted: 
     makes(alloc, &mut document, edit) == (0, records) && is_drawn(alloc, &document, wanted)
 }
 
-/// The place of the fault of an edit of the sample.
-fn refusal(alloc: Global, edit: Result<Edit, NoMemory>) -> u8 {
-    match sample(alloc) {
+/// The place of the fault of an edit of a document.
+fn refusal_in(
+    alloc: Global,
+    document: Result<Document, NoMemory>,
+    edit: Result<Edit, NoMemory>,
+) -> u8 {
+    match document {
         Ok(mut document) => makes(alloc, &mut document, edit).0,
         Err(_) => 10,
     }
+}
+
+/// The place of the fault of an edit of the sample.
+fn refusal(alloc: Global, edit: Result<Edit, NoMemory>) -> u8 {
+    refusal_in(alloc, sample(alloc), edit)
 }
 
 /// The place of the fault of an edit of an empty document, the first new element of which gets this id.
@@ -31,10 +41,7 @@ fn refusal_from(alloc: Global, first_id: u64, edit: Result<Edit, NoMemory>) -> u
     requires least { 1 ≤ first_id }
     requires most { first_id ≤ 2 ^ 63 }
 {
-    match empty(alloc, first_id) {
-        Ok(mut document) => makes(alloc, &mut document, edit).0,
-        Err(_) => 10,
-    }
+    refusal_in(alloc, empty(alloc, first_id), edit)
 }
 
 #[test]
