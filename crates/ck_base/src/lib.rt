@@ -14,7 +14,5 @@ pub mod name;
 pub mod path;
 pub mod priority;
 pub mod steps;
-#[cfg(test)]
-mod tests;
 pub mod text;
 pub mod value;

@@ -8,8 +8,6 @@ mod memory_files;
 mod memory_sink;
 mod real;
 mod sink;
-#[cfg(test)]
-mod tests;
 
 pub use files::{FetchFault, Files};
 pub use memory_files::MemoryFiles;

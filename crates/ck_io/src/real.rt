@@ -10,9 +10,6 @@ use std::io::{ErrorKind, Read};
 use std::marker::Model;
 use std::{io, rt};
 
-#[cfg(test)]
-mod tests;
-
 /// The files of the runtime's file system, by path.
 ///
 /// A file that isn't there is `Failed`, as is anything else that the system refuses, but for want of memory.

@@ -6,6 +6,4 @@ mod refusals;
 mod registered;
 mod schema_file;
 pub mod settings;
-#[cfg(test)]
-mod tests;
 pub mod texts;

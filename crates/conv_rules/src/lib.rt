@@ -10,5 +10,3 @@ pub mod list;
 mod order;
 pub mod shaping;
 mod stock;
-#[cfg(test)]
-mod tests;

@@ -3,14 +3,10 @@
 
 pub mod converters;
 mod examples;
-#[cfg(test)]
-mod field_tests;
 pub mod indexed;
 mod patterns;
 pub mod plan;
 pub mod plan_names;
 mod priorities;
 mod shapes;
-#[cfg(test)]
-mod tests;
 mod views;

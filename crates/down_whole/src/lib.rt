@@ -8,6 +8,4 @@ mod fill;
 mod maker;
 mod row;
 mod scene;
-#[cfg(test)]
-mod tests;
 pub mod whole;

@@ -9,8 +9,6 @@ mod opening;
 mod printing;
 pub mod run;
 mod tasks;
-#[cfg(test)]
-mod tests;
 
 ghost use Rattle.std.specs.Prelude.{◌≡◌, ◌<◌};
 

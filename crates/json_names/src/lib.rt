@@ -2,6 +2,4 @@
 #![tactic(auto)]
 
 pub mod names;
-#[cfg(test)]
-mod tests;
 pub mod values;

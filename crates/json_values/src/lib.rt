@@ -2,6 +2,4 @@
 #![tactic(auto)]
 
 pub mod places;
-#[cfg(test)]
-mod tests;
 pub mod values;

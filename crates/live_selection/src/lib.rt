@@ -6,8 +6,6 @@ pub mod examples;
 mod natural;
 pub mod overrides;
 pub mod selection;
-#[cfg(test)]
-mod tests;
 
 pub use overrides::Overrides;
 pub use selection::Selection;

@@ -3,7 +3,5 @@
 
 pub mod markers;
 mod table;
-#[cfg(test)]
-mod tests;
 
 pub use markers::{MarkerFault, Markers};

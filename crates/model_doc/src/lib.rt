@@ -6,11 +6,7 @@ pub mod batch;
 mod body;
 mod carrying;
 pub mod document;
-#[cfg(test)]
-mod examples;
 pub mod record;
-#[cfg(test)]
-mod tests;
 
 pub use batch::Batch;
 pub use document::Document;

@@ -9,5 +9,3 @@ pub mod fault;
 pub mod operation;
 mod plans;
 pub mod reversal;
-#[cfg(test)]
-mod tests;

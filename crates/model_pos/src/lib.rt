@@ -8,8 +8,6 @@ pub mod parts;
 pub mod places;
 mod runs;
 pub mod shifts;
-#[cfg(test)]
-mod tests;
 
 pub use carried::{carry, carry_range};
 pub use parts::{Counts, flat_parts};

@@ -11,7 +11,5 @@ mod moves;
 mod paths;
 pub mod reading;
 mod sizes;
-#[cfg(test)]
-mod tests;
 pub mod text;
 pub mod tree;

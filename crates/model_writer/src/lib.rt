@@ -2,8 +2,6 @@
 #![tactic(auto)]
 
 mod attributes;
-#[cfg(test)]
-mod drawing;
 mod elements;
 mod inserting;
 mod marking;
@@ -13,10 +11,6 @@ pub mod performing;
 mod places;
 mod planning;
 mod runs;
-#[cfg(test)]
-mod samples;
-#[cfg(test)]
-mod tests;
 mod wrapping;
 
 pub use model_doc::Batch;

@@ -7,5 +7,3 @@ pub mod parts;
 mod reading;
 mod seeking;
 mod table;
-#[cfg(test)]
-mod tests;

@@ -5,6 +5,4 @@ pub mod marks;
 pub mod model;
 pub mod refusals;
 pub mod selection;
-#[cfg(test)]
-mod tests;
 pub mod view;

@@ -8,5 +8,3 @@ pub mod fault;
 pub mod file;
 mod laws;
 pub mod names;
-#[cfg(test)]
-mod tests;

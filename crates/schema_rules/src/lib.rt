@@ -7,8 +7,6 @@ pub mod breaches;
 mod checks;
 mod chosen;
 pub mod compile;
-#[cfg(test)]
-mod document_tests;
 mod flags;
 mod graph;
 mod known;
@@ -19,6 +17,4 @@ mod refusals;
 pub mod schema;
 mod steps;
 mod tables;
-#[cfg(test)]
-mod tests;
 mod walk;

@@ -3,7 +3,5 @@
 
 mod edits;
 pub mod request;
-#[cfg(test)]
-mod tests;
 
 pub use request::read_request;

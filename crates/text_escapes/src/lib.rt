@@ -2,5 +2,3 @@
 #![tactic(auto)]
 
 pub mod escapes;
-#[cfg(test)]
-mod tests;

@@ -6,6 +6,4 @@ pub mod kind;
 mod lists;
 pub mod node;
 pub mod path;
-#[cfg(test)]
-mod tests;
 pub mod view;

@@ -17,8 +17,6 @@ use view_tree::node::Children;
 mod breaks;
 mod joins;
 mod layers;
-#[cfg(test)]
-mod tests;
 
 /// Keeps what stands before the entry with this index, and answers the rest: text and attribute elements that go on across the place are
 /// broken there. Before an index that no entry has stands all.
