@@ -71,18 +71,21 @@ before-cut at stick k (next ∷ path) items fits t h =
 abbrev pub IsShell : (Item → Item) → Type 0
 IsShell shell = (item : Item) (items : List Item) → inner item ≡ Some items → (old : List Item) × (inner (shell item) ≡ Some old)
 
-record Halves (element at : ℕ) (xs ys : List Item) : Type 0 where
-  items : List Item
-  fits : at ≤ length items
-  there : in_at xs element ≡ Some items
-  left : in_at ys element ≡ Some (take at items)
-  right : in_at ys (element + 1) ≡ Some (drop at items)
-  long : length ys ≡ length xs + 1
-  room : element < length xs
-  before : (i : ℕ) → i < element → slice_get ys i ≡ slice_get xs i
-  behind : (i : ℕ) → element < i → slice_get ys (i + 1) ≡ slice_get xs i
+pub record Halves (element at : ℕ) (xs ys : List Item) : Type 0 where
+  pub item : Item
+  pub items : List Item
+  pub fits : at ≤ length items
+  pub found : slice_get xs element ≡ Some item
+  pub then_found : slice_get ys element ≡ Some (with_inner (take at items) item)
+  pub there : in_at xs element ≡ Some items
+  pub left : in_at ys element ≡ Some (take at items)
+  pub right : in_at ys (element + 1) ≡ Some (drop at items)
+  pub long : length ys ≡ length xs + 1
+  pub room : element < length xs
+  pub before : (i : ℕ) → i < element → slice_get ys i ≡ slice_get xs i
+  pub behind : (i : ℕ) → element < i → slice_get ys (i + 1) ≡ slice_get xs i
 
-halves : (element at : ℕ) (shell : Item → Item) → IsShell shell → (xs ys : List Item) (r : Item) → split_at element at shell xs ≡ Some (ys, r) → Halves element at xs ys
+pub halves : (element at : ℕ) (shell : Item → Item) → IsShell shell → (xs ys : List Item) (r : Item) → split_at element at shell xs ≡ Some (ys, r) → Halves element at xs ys
 halves element at shell bare xs ys r e =
     let p = replacing element 1 (one_item (λ item. split_item at (shell item) item)) xs ys r e in
     let s = split-parts at shell p.run p.new r p.gives in
@@ -90,8 +93,11 @@ halves element at shell bare xs ys r e =
     let l = lengths p.parted in
     let m = room p.parted in
     record {
+      item = s.item;
       items = s.items;
       fits = s.fits;
+      found = get-old p.parted element 0 (omega arith) (omega arith) ∙ ap (λ zs. slice_get zs 0) s.one;
+      then_found = get-new p.parted element 0 (omega (arith, two)) (omega arith) ∙ ap (λ zs. slice_get zs 0) s.two;
       there = ap (option_and_then inner) (get-old p.parted element 0 (omega arith) (omega arith) ∙ ap (λ zs. slice_get zs 0) s.one) ∙ s.here;
       left = ap (option_and_then inner) (get-new p.parted element 0 (omega (arith, two)) (omega arith) ∙ ap (λ zs. slice_get zs 0) s.two) ∙ inner-with_inner s.item s.items (take at s.items) s.here;
       right = ap (option_and_then inner) (get-new p.parted (element + 1) 1 (omega (arith, two)) (omega arith) ∙ ap (λ zs. slice_get zs 1) s.two)
@@ -128,17 +134,20 @@ split-keeps element at shell bare stick xs ys r (i ∷ k ∷ path) e h = go (i =
     go false t false v s = inside-at xs ys i i k path (s.before i (grind (arith, nat_tests))) h
 
 -- two elements merged into one
-record Joined (right count : ℕ) (xs ys : List Item) : Type 0 where
-  front : List Item
-  back : List Item
-  first : in_at xs (right - 1) ≡ Some front
-  second : in_at xs right ≡ Some back
-  one : in_at ys (right - 1) ≡ Some (front ++ back)
-  many : length front ≡ count
-  long : length ys + 1 ≡ length xs
-  room : right < length xs
-  before : (i : ℕ) → i + 1 < right → slice_get ys i ≡ slice_get xs i
-  behind : (i : ℕ) → right < i → slice_get ys (i - 1) ≡ slice_get xs i
+pub record Joined (right count : ℕ) (xs ys : List Item) : Type 0 where
+  pub item : Item
+  pub front : List Item
+  pub back : List Item
+  pub found : slice_get xs (right - 1) ≡ Some item
+  pub then_found : slice_get ys (right - 1) ≡ Some (with_inner (front ++ back) item)
+  pub first : in_at xs (right - 1) ≡ Some front
+  pub second : in_at xs right ≡ Some back
+  pub one : in_at ys (right - 1) ≡ Some (front ++ back)
+  pub many : length front ≡ count
+  pub long : length ys + 1 ≡ length xs
+  pub room : right < length xs
+  pub before : (i : ℕ) → i + 1 < right → slice_get ys i ≡ slice_get xs i
+  pub behind : (i : ℕ) → right < i → slice_get ys (i - 1) ≡ slice_get xs i
 
 pub record Merged (run new : List Item) (r : Item × ℕ) : Type 0 where
   pub left : Item
@@ -174,7 +183,7 @@ merged-parts (left ∷ other ∷ []) new r e =
       emptied = sym (ap (λ (m : List Item × (Item × ℕ)). m.1.0) b.2);
     }
 
-joined : (right : ℕ) (xs ys : List Item) (r : Item × ℕ) → 0 < right → merge_at right xs ≡ Some (ys, r) → Joined right r.1 xs ys
+pub joined : (right : ℕ) (xs ys : List Item) (r : Item × ℕ) → 0 < right → merge_at right xs ≡ Some (ys, r) → Joined right r.1 xs ys
 joined right xs ys r some e =
     let p = replacing (right - 1) 2 merge_items xs ys r e in
     let s = merged-parts p.run p.new r p.gives in
@@ -182,8 +191,11 @@ joined right xs ys r some e =
     let l = lengths p.parted in
     let m = room p.parted in
     record {
+      item = s.left;
       front = s.front;
       back = s.back;
+      found = get-old p.parted (right - 1) 0 (omega arith) (omega arith) ∙ ap (λ zs. slice_get zs 0) s.two;
+      then_found = get-new p.parted (right - 1) 0 (omega (arith, one)) (omega arith) ∙ ap (λ zs. slice_get zs 0) s.one;
       first = ap (option_and_then inner) (get-old p.parted (right - 1) 0 (omega arith) (omega arith) ∙ ap (λ zs. slice_get zs 0) s.two) ∙ s.first;
       second = ap (option_and_then inner) (get-old p.parted right 1 (omega arith) (omega (arith, some)) ∙ ap (λ zs. slice_get zs 1) s.two) ∙ s.second;
       one = ap (option_and_then inner) (get-new p.parted (right - 1) 0 (omega (arith, one)) (omega arith) ∙ ap (λ zs. slice_get zs 0) s.one) ∙ inner-with_inner s.left s.front (s.front ++ s.back) s.first;

@@ -68,8 +68,11 @@ placed xs (index ∷ next ∷ path) h = ((λ e. cc), go (slice_get xs index) h.1
 
 -- what a change in the item at an index went through
 pub record Through {R : Type 0} (xs : List Item) (i : ℕ) (change : Change R) (ys : List Item) (r : R) : Type 0 where
+  pub item : Item
   pub items : List Item
   pub new : List Item
+  pub found : slice_get xs i ≡ Some item
+  pub then_found : slice_get ys i ≡ Some (with_inner new item)
   pub there : in_at xs i ≡ Some items
   pub made : change items ≡ Some (new, r)
   pub then_there : in_at ys i ≡ Some new
@@ -91,8 +94,11 @@ through {R = R} xs i change ys r e =
     let d = map-some (λ (made : List Item × R). (with_inner made.0 a.0, made.1)) (change c.0) b.0 c.2 in
     let whole : slice_set xs i (with_inner d.0.0 a.0) ≡ ys = ap (slice_set xs i) (ap (λ (p : Item × R). p.0) d.2) ∙ ap (λ (p : List Item × R). p.0) b.2 in
     record {
+      item = a.0;
       items = c.0;
       new = d.0.0;
+      found = a.1;
+      then_found = ap (λ zs. slice_get zs i) (sym whole) ∙ get-set xs i a.0 (with_inner d.0.0 a.0) a.1;
       there = ap (option_and_then inner) a.1 ∙ c.1;
       made = d.1 ∙ ap (λ v. Some (d.0.0, v)) (ap (λ (p : Item × R). p.1) d.2 ∙ ap (λ (p : List Item × R). p.1) b.2);
       then_there = ap (λ zs. in_at zs i) (sym whole) ∙ ap (option_and_then inner) (get-set xs i a.0 (with_inner d.0.0 a.0) a.1) ∙ inner-with_inner a.0 c.0 d.0.0 c.1;
@@ -101,7 +107,7 @@ through {R = R} xs i change ys r e =
     }
 
 -- an offset in a list that holds the parent stays
-offset-stays : (s o : ℕ) (parent : List ℕ) (rule : List ℕ → List ℕ) → rule [] ≡ [] → within (s ∷ parent) rule (o ∷ []) ≡ o ∷ []
+pub offset-stays : (s o : ℕ) (parent : List ℕ) (rule : List ℕ → List ℕ) → rule [] ≡ [] → within (s ∷ parent) rule (o ∷ []) ≡ o ∷ []
 offset-stays s o parent rule none =
     elim (decide s o) [
       | inl same ↦ ap (λ v. within (s ∷ parent) rule (v ∷ [])) (sym same) ∙ within-same s parent [] rule ∙ (λ t. same t ∷ empty parent t)

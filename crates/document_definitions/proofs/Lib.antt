@@ -7,5 +7,8 @@ mod Same
 pub mod Ranges
 pub mod Limits
 mod Ids
+mod Standing
+pub mod Staying
+mod Ordering
 pub mod Soundness
 pub mod Copies

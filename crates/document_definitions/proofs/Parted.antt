@@ -1,10 +1,9 @@
 -- A list in which some items that stand next to each other are replaced.
 use Rattle.std.proofs.Common.{◌≡◌, ℕ, zero, suc, ◌+◌, ◌<◌, ◌≤◌, List, [], ◌∷◌, ◌++◌, length, take, drop, Some, slice_get, refl, sym, ap, ◌∙◌, arith, length-append, length-take, length-drop}
-use Rattle.std.proofs.lemmas.List.{take-append-drop}
 use Rattle.item_definitions.specs.Item.{Item}
 use Rattle.item_definitions.specs.Children.{Change}
 use Rattle.operation_definitions.specs.Level.{replace}
-use Rattle.operation_definitions.proofs.Levels.{replaced}
+use Rattle.operation_definitions.proofs.Levels.{replaced, three}
 
 pub get-front : (a c : List Item) (i : ℕ) → i < length a → slice_get (a ++ c) i ≡ slice_get a i
 get-front [] c i less = absurd (omega arith)
@@ -24,20 +23,6 @@ pub record Parted (offset count : ℕ) (xs ys run new : List Item) : Type 0 wher
   pub many : length run ≡ count
   pub before : xs ≡ front ++ (run ++ back)
   pub after : ys ≡ front ++ (new ++ back)
-
-drop-none : {X : Type 0} (n : ℕ) → drop {A = X} n [] ≡ []
-drop-none zero = refl
-drop-none (suc n) = refl
-
-drop-add : {X : Type 0} (offset count : ℕ) (xs : List X) → drop (offset + count) xs ≡ drop count (drop offset xs)
-drop-add zero count xs = (let e : 0 + count ≡ count = omega arith in ap (λ n. drop n xs) e)
-drop-add (suc offset) count [] = drop-none (suc offset + count) ∙ sym (drop-none count)
-drop-add (suc offset) count (x ∷ xs) = (let e : suc offset + count ≡ suc (offset + count) = omega arith in ap (λ n. drop n (x ∷ xs)) e ∙ drop-add offset count xs)
-
-three : {X : Type 0} (offset count : ℕ) (xs : List X) → take offset xs ++ (take count (drop offset xs) ++ drop (offset + count) xs) ≡ xs
-three offset count xs =
-    ap (λ rest. take offset xs ++ (take count (drop offset xs) ++ rest)) (drop-add offset count xs)
-    ∙ ap (λ rest. take offset xs ++ rest) (take-append-drop count (drop offset xs)) ∙ take-append-drop offset xs
 
 -- a replacement with what it gives
 pub record Replacing {R : Type 0} (offset count : ℕ) (change : Change R) (xs ys : List Item) (r : R) : Type 0 where

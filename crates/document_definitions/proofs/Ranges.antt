@@ -42,7 +42,7 @@ stay-carries : {R : Type 0} (path : List ℕ) (change : Change R) → ((xs ys : 
 stay-carries path change level xs ys r e stick position h = subst (Inside ys) (within-same_path path position) (keeps path change (λ p. p) refl r (λ xs ys p. level xs ys r p) xs ys position e h)
 
 -- the shell of a split is an element
-like-shell : (id : ℕ) → IsShell (like id)
+pub like-shell : (id : ℕ) → IsShell (like id)
 like-shell id (character scalar attributes) items e = absurd cc
 like-shell id (element old name attributes children) items e = ([], refl)
 
@@ -68,7 +68,7 @@ merge-carries right target xs ys r some same e stick p h =
     (keeps (parent_of right) (merge_at (offset_of right)) (rule_merge (offset_of right) r.1) refl r
     (λ xs ys p f. merge-keeps (offset_of right) xs ys r p some f) xs ys p e h)
 
-positive : (n : ℕ) → nat_lt 0 n ≡ true → 0 < n
+pub positive : (n : ℕ) → nat_lt 0 n ≡ true → 0 < n
 positive n e = grind (arith, nat_tests)
 
 -- both ends of a range where they are carried

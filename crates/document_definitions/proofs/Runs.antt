@@ -17,20 +17,20 @@ use Rattle.document_definitions.proofs.Kept.{parted-in, parted-out}
 use Rattle.document_definitions.proofs.Halves.{get-some}
 
 -- what is left of a position behind a parent that it is in or below
-rest-same : (s : ℕ) (parent path rest : List ℕ) → rest_behind (s ∷ parent) (s ∷ path) ≡ Some rest → rest_behind parent path ≡ Some rest
+pub rest-same : (s : ℕ) (parent path rest : List ℕ) → rest_behind (s ∷ parent) (s ∷ path) ≡ Some rest → rest_behind parent path ≡ Some rest
 rest-same s parent path rest e = sym (ap (λ t. if t then rest_behind parent path else None) (own s)) ∙ e
   where
     own : (s : ℕ) → (s == s) ≡ true
     own s = grind (arith, nat_tests)
 
-rest-first : (s i : ℕ) (parent path rest : List ℕ) → rest_behind (s ∷ parent) (i ∷ path) ≡ Some rest → s ≡ i
+pub rest-first : (s i : ℕ) (parent path rest : List ℕ) → rest_behind (s ∷ parent) (i ∷ path) ≡ Some rest → s ≡ i
 rest-first s i parent path rest e = go (s == i) refl e
   where
     go : (t : Bool) → t ≡ (s == i) → (if t then rest_behind parent path else None) ≡ Some rest → s ≡ i
     go true t e = grind (arith, nat_tests)
     go false t e = absurd cc
 
-no-rest : (parent : List ℕ) (number : ℕ) (path : List ℕ) → rest_behind parent [] ≢ Some (number ∷ path)
+pub no-rest : (parent : List ℕ) (number : ℕ) (path : List ℕ) → rest_behind parent [] ≢ Some (number ∷ path)
 no-rest [] number path e = (let f : [] ≡ number ∷ path = ap (λ o. unwrap_or o []) e in cc)
 no-rest (s ∷ parent) number path e = cc
 

@@ -1,5 +1,5 @@
 -- Changes that leave every item where it is, and what is in it.
-use Rattle.std.proofs.Common.{◌≡◌, ℕ, zero, suc, ◌+◌, ◌-◌, ◌<◌, ◌≤◌, Bool, true, false, nat_lt, ◌==◌, if◌then◌else◌, List, [], ◌∷◌, ◌++◌, length, Option, Some, None, option_and_then, refl, sym, ap, ◌∙◌, subst, arith}
+use Rattle.std.proofs.Common.{◌≡◌, ℕ, zero, suc, ◌+◌, ◌-◌, ◌<◌, ◌≤◌, Bool, true, false, nat_lt, ◌==◌, if◌then◌else◌, List, [], ◌∷◌, ◌++◌, length, Option, Some, None, option_and_then, slice_get, refl, sym, ap, ◌∙◌, subst, arith}
 use Rattle.std.specs.Option.{option_map_or}
 use Rattle.std.proofs.lemmas.Bool.Decides.{nat_tests}
 use Rattle.ck_base.specs.declared.value.Value.{Value as AttributeValue}
@@ -29,30 +29,32 @@ same-inside xs ys [] long same h = absurd (h tt)
 same-inside xs ys (o ∷ []) long same h = omega (arith, h, long)
 same-inside xs ys (i ∷ next ∷ path) long same h = (h.0, same i ∙ h.1, h.2)
 
-same-parted : (offset count : ℕ) (xs ys run new : List Item) → Parted offset count xs ys run new → length new ≡ count → ((k : ℕ) → in_at new k ≡ in_at run k) → (i : ℕ) → in_at ys i ≡ in_at xs i
-same-parted offset count xs ys run new p long same i = go (nat_lt i offset) refl (nat_lt i (offset + count)) refl
+-- what items stand in place of others that agree with them agrees at each index
+pub same-parted : {B : Type 0} (f : Option Item → B) (offset count : ℕ) (xs ys run new : List Item) → Parted offset count xs ys run new → length new ≡ count
+    → ((k : ℕ) → f (slice_get new k) ≡ f (slice_get run k)) → (i : ℕ) → f (slice_get ys i) ≡ f (slice_get xs i)
+same-parted f offset count xs ys run new p long same i = go (nat_lt i offset) refl (nat_lt i (offset + count)) refl
   where
-    go : (t : Bool) → t ≡ nat_lt i offset → (u : Bool) → u ≡ nat_lt i (offset + count) → in_at ys i ≡ in_at xs i
-    go true t u v = ap (option_and_then inner) (get-before p i (grind (arith, nat_tests)))
+    go : (t : Bool) → t ≡ nat_lt i offset → (u : Bool) → u ≡ nat_lt i (offset + count) → f (slice_get ys i) ≡ f (slice_get xs i)
+    go true t u v = ap f (get-before p i (grind (arith, nat_tests)))
     go false t true v =
         let least : offset ≤ i = grind (arith, nat_tests) in
         let less : i < offset + count = grind (arith, nat_tests) in
-        ap (option_and_then inner) (get-new p i (i - offset) (omega (arith, least, less, long)) (omega (arith, least)))
-        ∙ same (i - offset) ∙ sym (ap (option_and_then inner) (get-old p i (i - offset) (omega (arith, least, less)) (omega (arith, least))))
+        ap f (get-new p i (i - offset) (omega (arith, least, less, long)) (omega (arith, least)))
+        ∙ same (i - offset) ∙ sym (ap f (get-old p i (i - offset) (omega (arith, least, less)) (omega (arith, least))))
     go false t false v =
         let least : offset + count ≤ i = grind (arith, nat_tests) in
-        ap (option_and_then inner) (get-behind p i i (i - (offset + count)) (omega (arith, least)) (omega (arith, least, long)))
+        ap f (get-behind p i i (i - (offset + count)) (omega (arith, least)) (omega (arith, least, long)))
 
 inner-same : (item : Item) (key : List ℕ) (value : Option AttributeValue) → inner (with_attributes (with_key key value (attributes_of item)) item) ≡ inner item
 inner-same (character scalar attributes) key value = refl
 inner-same (element id name attributes children) key value = refl
 
-given-same : (key : List ℕ) (value : Option AttributeValue) (run : List Item) (k : ℕ) → in_at (given key value run) k ≡ in_at run k
+pub given-same : (key : List ℕ) (value : Option AttributeValue) (run : List Item) (k : ℕ) → in_at (given key value run) k ≡ in_at run k
 given-same key value [] k = refl
 given-same key value (item ∷ run) zero = inner-same item key value
 given-same key value (item ∷ run) (suc k) = given-same key value run k
 
-as-long : (key : List ℕ) (value : Option AttributeValue) (run : List Item) → length (given key value run) ≡ length run
+pub as-long : (key : List ℕ) (value : Option AttributeValue) (run : List Item) → length (given key value run) ≡ length run
 as-long key value [] = refl
 as-long key value (item ∷ run) = ap suc (as-long key value run)
 
@@ -64,10 +66,10 @@ give-keeps offset count key value xs ys old position e h =
     let m = q.many in
     let l = lengths q in
     let long : length (given key value p.run) ≡ count = as-long key value p.run ∙ m in
-    same-inside xs ys position (omega (arith, l, long)) (same-parted offset count xs ys p.run (given key value p.run) q long (given-same key value p.run)) h
+    same-inside xs ys position (omega (arith, l, long)) (same-parted (option_and_then inner) offset count xs ys p.run (given key value p.run) q long (given-same key value p.run)) h
 
 -- an element with another name
-renamed-same : (name : List ℕ) (run new : List Item) (old : List ℕ) → one_item (renamed name) run ≡ Some (new, old) → (length new ≡ 1) × ((k : ℕ) → in_at new k ≡ in_at run k)
+pub renamed-same : (name : List ℕ) (run new : List Item) (old : List ℕ) → one_item (renamed name) run ≡ Some (new, old) → (length new ≡ 1) × ((k : ℕ) → in_at new k ≡ in_at run k)
 renamed-same name [] new old e = absurd cc
 renamed-same name (item ∷ next ∷ run) new old e = absurd cc
 renamed-same name (character scalar attributes ∷ []) new old e = absurd cc
@@ -84,4 +86,4 @@ rename-keeps index name xs ys old position e h =
     let p = replacing index 1 (one_item (renamed name)) xs ys old e in
     let s = renamed-same name p.run p.new old p.gives in
     let l = lengths p.parted in
-    same-inside xs ys position (omega (arith, l, s.0)) (same-parted index 1 xs ys p.run p.new p.parted s.0 s.1) h
+    same-inside xs ys position (omega (arith, l, s.0)) (same-parted (option_and_then inner) index 1 xs ys p.run p.new p.parted s.0 s.1) h

@@ -6,10 +6,11 @@ use Rattle.item_definitions.specs.Item.{Item}
 use Rattle.item_definitions.specs.Children.{child_count}
 use Rattle.item_definitions.specs.Position.{Range, IsRange}
 use Rattle.item_definitions.specs.Shift.{Shift, IsWithinLimits, carried_ends}
-use Rattle.operation_definitions.specs.Reversed.{IsLimited, HasPlaces}
+use Rattle.operation_definitions.specs.Reversed.{IsLimited, AreOrdered, HasPlaces}
+use Rattle.operation_definitions.specs.After.{in_cell_at}
 use Rattle.document_definitions.specs.Markers.{Markers}
 use Rattle.document_definitions.specs.Selection.{Selection, is_collapsed}
-use Rattle.operation_definitions.specs.Operation.{Operation, marker}
+use Rattle.operation_definitions.specs.Operation.{Operation, insert, marker}
 use Rattle.document_definitions.specs.Document.{State, ids_of, brought}
 
 -- the ids of all elements in a tree and in the cells beside it
@@ -53,3 +54,13 @@ pub record IsFitting (operation : Operation) (state : State) : Type 0 where
 -- both ends of a range are carried to positions within the limits
 abbrev pub IsCarried : Shift → Range → Type 0
 IsCarried shift range = IsWithinLimits (carried_ends shift range).start × IsWithinLimits (carried_ends shift range).end
+
+-- the keys of all items in the tree and in the cells are in order, which makes their attributes finite maps
+pub record IsKeyed (state : State) : Type 0 where
+  pub items : AreOrdered state.document.items
+  pub cells : (number : ℕ) → AreOrdered (in_cell_at state.cells number)
+
+-- the keys of the items that come in are in order
+abbrev pub BringsOrdered : Operation → Type 0
+BringsOrdered (insert position new) = AreOrdered new
+BringsOrdered operation = Unit {0}

@@ -19,17 +19,17 @@ drop-front (x ∷ a) b = drop-front a b
 drop-both : {X : Type 0} (a b c : List X) → drop (length a + length b) (a ++ (b ++ c)) ≡ c
 drop-both a b c = ap (λ n. drop n (a ++ (b ++ c))) (sym (length-append a b)) ∙ ap (drop (length (a ++ b))) (sym (append_assoc a b c)) ∙ drop-front (a ++ b) c
 
-drop-none : {X : Type 0} (n : ℕ) → drop {A = X} n [] ≡ []
+pub drop-none : {X : Type 0} (n : ℕ) → drop {A = X} n [] ≡ []
 drop-none zero = refl
 drop-none (suc n) = refl
 
-drop-add : {X : Type 0} (offset count : ℕ) (xs : List X) → drop (offset + count) xs ≡ drop count (drop offset xs)
+pub drop-add : {X : Type 0} (offset count : ℕ) (xs : List X) → drop (offset + count) xs ≡ drop count (drop offset xs)
 drop-add zero count xs = (let e : 0 + count ≡ count = omega arith in ap (λ n. drop n xs) e)
 drop-add (suc offset) count [] = drop-none (suc offset + count) ∙ sym (drop-none count)
 drop-add (suc offset) count (x ∷ xs) = (let e : suc offset + count ≡ suc (offset + count) = omega arith in ap (λ n. drop n (x ∷ xs)) e ∙ drop-add offset count xs)
 
 -- a list in three: what is before a run, the run, and what is behind it
-three : {X : Type 0} (offset count : ℕ) (xs : List X) → take offset xs ++ (take count (drop offset xs) ++ drop (offset + count) xs) ≡ xs
+pub three : {X : Type 0} (offset count : ℕ) (xs : List X) → take offset xs ++ (take count (drop offset xs) ++ drop (offset + count) xs) ≡ xs
 three offset count xs =
     ap (λ rest. take offset xs ++ (take count (drop offset xs) ++ rest)) (drop-add offset count xs)
     ∙ ap (λ rest. take offset xs ++ rest) (take-append-drop count (drop offset xs)) ∙ take-append-drop offset xs

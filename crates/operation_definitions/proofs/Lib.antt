@@ -9,5 +9,6 @@ pub mod Moves
 pub mod Stays
 pub mod Moved
 pub mod Keys
+pub mod Ordered
 pub mod Values
 pub mod Reversal

@@ -34,7 +34,7 @@ decide s i = go (s == i) refl
     go true t = inl (grind (arith, nat_tests))
     go false t = inr (λ e. grind (arith, nat_tests))
 
-before-le : (at number : ℕ) (path : List ℕ) → comes_before at to_next number path ≡ nat_le at number
+pub before-le : (at number : ℕ) (path : List ℕ) → comes_before at to_next number path ≡ nat_le at number
 before-le at number [] = grind (arith, nat_tests)
 before-le at number (next ∷ path) = refl
 

@@ -7,17 +7,18 @@ use Rattle.std.proofs.lemmas.List.{length-map}
 use Rattle.ck_base.specs.declared.value.Value.{Value as AttributeValue}
 use Rattle.ck_base.specs.declared.value.Value.TheVariants.{Whole, Truth, Text}
 use Rattle.ck_base.specs.Entries.{IsOrdered, value_of}
-use Rattle.item_definitions.specs.Item.{Item, Items, character, element, none, more, list_of, inner, with_inner, attributes_of, with_attributes}
+use Rattle.item_definitions.specs.Item.{Item, character, element, inner, with_inner, attributes_of, with_attributes}
 use Rattle.item_definitions.specs.Children.{parent_of, offset_of, at, in_item}
 use Rattle.item_definitions.specs.Position.{Range}
 use Rattle.operation_definitions.specs.Level.{give, given, with_key}
 use Rattle.operation_definitions.specs.Operation.{Fault, attribute, no_place, not_flat}
 use Rattle.operation_definitions.specs.After.{◌>>=◌, check, effect, in_cell_at, same_value, first_other, no_other, have_value}
-use Rattle.operation_definitions.specs.Reversed.{IsTakenBack, IsLimited, IsItemOrdered, IsInnerOrdered, AreOrdered}
+use Rattle.operation_definitions.specs.Reversed.{IsTakenBack, IsLimited, AreOrdered}
 use Rattle.operation_definitions.proofs.Lifting.{TakesBack, at-back, map-some, then-some}
 use Rattle.operation_definitions.proofs.Levels.{replace-back, replaced}
 use Rattle.operation_definitions.proofs.Steps.{step-ok, ok_or-some, check-true, step, step-some, step-check}
 use Rattle.operation_definitions.proofs.Names.{same_numbers, numbers_same}
+use Rattle.operation_definitions.proofs.Ordered.{item-keys, below-ordered, get-ordered, drop-ordered}
 use Rattle.operation_definitions.proofs.Keys.{with_key-again, with_key-value}
 use Rattle.operation_definitions.proofs.Simple.{State, taken_back, pair-first, pair-second}
 
@@ -116,28 +117,6 @@ give-back offset count key old new run h g =
         )
 
 -- what holds of the keys of all items holds of those of a run, also in an element
-item-keys : (item : Item) → IsItemOrdered item → IsOrdered (attributes_of item)
-item-keys (character scalar attributes) h = h
-item-keys (element id name attributes children) h = h.0
-
-inner-ordered : (children : Items) → IsInnerOrdered children → AreOrdered (list_of children)
-inner-ordered none h = tt
-inner-ordered (more item items) h = (h.0, inner-ordered items h.1)
-
-below-ordered : (item : Item) (children : List Item) → IsItemOrdered item → inner item ≡ Some children → AreOrdered children
-below-ordered (character scalar attributes) children h e = absurd cc
-below-ordered (element id name attributes inside) children h e = (let same : list_of inside ≡ children = cc in subst AreOrdered same (inner-ordered inside h.1))
-
-get-ordered : (items : List Item) (i : ℕ) (item : Item) → AreOrdered items → slice_get items i ≡ Some item → IsItemOrdered item
-get-ordered [] i item h e = absurd cc
-get-ordered (x ∷ items) zero item h e = (let same : x ≡ item = cc in subst IsItemOrdered same h.0)
-get-ordered (x ∷ items) (suc i) item h e = get-ordered items i item h.1 e
-
-drop-ordered : (n : ℕ) (items : List Item) → AreOrdered items → AreOrdered (drop n items)
-drop-ordered zero items h = h
-drop-ordered (suc n) [] h = tt
-drop-ordered (suc n) (item ∷ items) h = drop-ordered n items h.1
-
 take-keys : (n : ℕ) (items : List Item) → AreOrdered items → KeysOrdered (take n items)
 take-keys zero items h = tt
 take-keys (suc n) [] h = tt
