@@ -1,5 +1,5 @@
 -- Taking the last operation back leads to the state before it, but for cells that are empty.
-use Rattle.std.proofs.Common.{◌≡◌, ℕ, zero, suc, ◌<◌, ◌≤◌, Bool, true, false, ◌&&◌, nat_le, nat_eq, ◌==◌, if◌then◌else◌, List, [], ◌∷◌, ◌++◌, length, set, get_or, Option, Some, None, All, Result, Ok, Err, refl, sym, ap, ◌∙◌, subst, arith, length-set}
+use Rattle.std.proofs.Common.{◌≡◌, ◌≢◌, ℕ, zero, suc, ◌<◌, ◌≤◌, Bool, true, false, ◌&&◌, nat_le, nat_eq, ◌==◌, if◌then◌else◌, List, [], ◌∷◌, ◌++◌, length, set, get_or, Option, Some, None, All, Result, Ok, Err, refl, sym, ap, ◌∙◌, subst, arith, length-set}
 use Rattle.std.specs.List.{flat_map, IsDistinct}
 use Rattle.std.proofs.lemmas.Bool.Decides.{nat_tests}
 use Rattle.item_definitions.specs.Item.{Item}
@@ -11,12 +11,15 @@ use Rattle.operation_definitions.proofs.Simple.{State as Both, after-effect}
 use Rattle.operation_definitions.proofs.Reversal.{reversal}
 use Rattle.document_definitions.specs.Document.{State, ids_of, changed}
 use Rattle.document_definitions.specs.Sound.{ids_in, IsSound}
+use Rattle.model_ops.specs.declared.fault.OpFault.{OpFault}
+use Rattle.model_ops.specs.declared.fault.OpFault.TheVariants.{NoPlace, NotFlat, IntoItself, OldDiffers, NotNeighbours, CellState, TooLarge, TooDeep, NoMemory}
+use Rattle.model_ops.specs.Effects.{refusal}
 use Rattle.model_ops.specs.Limits.{IsWithin, SplitsElement}
 use Rattle.model_ops.proofs.BackLimits.{back_within}
 use Rattle.model_doc.specs.Parts.{state_of}
 use Rattle.model_doc.specs.Held.{Held, present, returned}
 use Rattle.model_doc.specs.Records.{Done, AreSame, LedTo, Leads, IsAgain}
-use Rattle.model_doc.proofs.SameCells.{emptied as emptied_at, effect-same}
+use Rattle.model_doc.proofs.SameCells.{emptied as emptied_at, effect-same, after-there}
 
 -- what the operation of a record made
 record Made (before : State) (done : Done) (held : Held) : Type 0 where
@@ -65,6 +68,33 @@ free-next cells = λ i. both (most (length cells)) (ap is_empty (none cells)) i
     none : (cells : List (List Item)) → get_or cells (length cells) [] ≡ []
     none [] = refl
     none (cell ∷ cells) = none cells
+
+-- and it isn't refused
+pub not_refused : (before : State) (done : Done) (held : Held) → Leads before done held → (made : Both) × (after held.state.document.items held.state.cells (back done.operation done.cell) ≡ Ok made)
+not_refused before done held leads =
+    let m = made_by before done held leads in
+    let free : is_free m.made.1 done.cell ≡ true = ap (is_free m.made.1) m.cell ∙ free-next m.made.1 in
+    let law = reversal before.document.items before.cells done.operation m.made done.cell leads.sound.limited leads.ordered leads.places m.e free in
+    let here = after-there m.made.1 held.state.cells m.same m.long m.made.0 (before.document.items, law.then_cells) (back done.operation done.cell) leads.sound.limited law.reversed in
+    (here.0, ap (λ (xs : List Item). after xs held.state.cells (back done.operation done.cell)) m.items ∙ here.1)
+
+-- a fault that only memory can be
+pub memory_alone : {A : Type 0} (r : Result A Fault) (made : A) (fault : OpFault) → r ≡ Ok made → (fault ≢ NoMemory → refusal r ≡ Some fault) → fault ≡ NoMemory
+memory_alone r made fault e refused = go fault (λ other. none other (refused other))
+  where
+    none : (other : fault ≢ NoMemory) → refusal r ≡ Some fault → ⊥
+    none other f = (let g : None ≡ Some fault = sym (ap refusal e) ∙ f in absurd cc)
+
+    go : (fault : OpFault) → (fault ≢ NoMemory → ⊥) → fault ≡ NoMemory
+    go NoPlace h = absurd (h (λ e. cc))
+    go NotFlat h = absurd (h (λ e. cc))
+    go IntoItself h = absurd (h (λ e. cc))
+    go (OldDiffers found) h = absurd (h (λ e. cc))
+    go NotNeighbours h = absurd (h (λ e. cc))
+    go (CellState number) h = absurd (h (λ e. cc))
+    go (TooLarge count) h = absurd (h (λ e. cc))
+    go (TooDeep depth) h = absurd (h (λ e. cc))
+    go NoMemory h = refl
 
 no-cell : (cells : List (List Item)) (n : ℕ) → length cells ≤ n → in_cell_at cells n ≡ []
 no-cell [] n h = refl

@@ -1,5 +1,6 @@
 //! A document's state.
-ghost use Rattle.std.specs.Prelude.{◌≡◌, ◌≢◌, ◌+◌, ◌≤◌, ◌^◌, [], ◌∷◌, ◌++◌, length, map, false, Ok, Some, IfOk, IfErr, OnOk};
+ghost use Rattle.std.specs.Prelude.{◌≡◌, ◌≢◌, List, ◌+◌, ◌≤◌, ◌^◌, [], ◌∷◌, ◌++◌, length, map, false, Ok, Some, IfOk, IfErr, OnOk};
+ghost use Rattle.item_definitions.specs.Item.{Item};
 ghost use Rattle.operation_definitions.specs.After.{after};
 ghost use Rattle.operation_definitions.specs.Back.{back};
 ghost use Rattle.model_ops.specs.Limits.{IsWithin, SplitsElement};
@@ -197,10 +198,13 @@ impl Body {
         Ok(made)
     }
 
-    /// The items and cells after the reversal of a record's operation. It answers `NoMemory` alone beside Ok, also where that is refused.
+    /// The items and cells after the reversal of a record's operation, which isn't refused. It answers `NoMemory` alone beside Ok, and only
+    /// where memory ran out.
+    #[tactic(auto, using(crate::proofs::GoingBack::memory_alone))]
     fn taken_back(&self, done: &Record) -> Result<(Tree, Cells), NoMemory>
         requires split { SplitsElement done.now.operation }
         requires limits { IsWithin (back done.now.operation done.now.cell) }
+        requires fine { (made : List Item × List (List Item)) × (after self.now.state.document.items self.now.state.cells (back done.now.operation done.now.cell) ≡ Ok made) }
         ensures { IfOk result (λ made. after self.now.state.document.items self.now.state.cells (back done.now.operation done.now.cell) ≡ Ok (made.0, made.1)) }
     {
         let mut tree = self.tree.copy()?;
@@ -210,7 +214,7 @@ impl Body {
         discard(back);
         match answer {
             Ok(()) => Ok((tree, cells)),
-            Err(_) => Err(AllocError),
+            Err(fault) => Err(want_of_memory(fault)),
         }
     }
 
@@ -269,6 +273,16 @@ fn start_of_root(alloc: Global) -> Selection
     match Position::new(alloc, path) {
         Some(start) => Selection::new(alloc, Range::collapsed(start), false),
         None => unreachable!(),
+    }
+}
+
+/// A fault that is the want of memory.
+fn want_of_memory(fault: OpFault) -> NoMemory
+    requires { fault ≡ OpFault.NoMemory }
+{
+    match fault {
+        OpFault::NoMemory => AllocError,
+        _ => unreachable!(),
     }
 }
 

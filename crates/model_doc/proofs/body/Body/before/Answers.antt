@@ -2,7 +2,7 @@ use Rattle.std.proofs.Common.{◌≤◌, [], length, set, sym, ap, ◌∙◌, su
 use Rattle.document_definitions.specs.Document.{State}
 use Rattle.model_doc.specs.Held.{returned}
 use Rattle.model_doc.specs.Records.{Done, IsAgain}
-use Rattle.model_doc.proofs.GoingBack.{within, counted, is_again, again_sound, again_long}
+use Rattle.model_doc.proofs.GoingBack.{within, not_refused, counted, is_again, again_sound, again_long}
 use Rattle.model_doc.proofs.body.Body.before.Goals as goal
 
 pub taken_back-requires-clause-split : goal.taken_back-requires-clause-split
@@ -10,6 +10,9 @@ taken_back-requires-clause-split c = (within c.requires.0 c.args.done.now (retur
 
 pub taken_back-requires-clause-limits : goal.taken_back-requires-clause-limits
 taken_back-requires-clause-limits c = (within c.requires.0 c.args.done.now (returned c.args.self.now) c.requires.1).1
+
+pub taken_back-requires-clause-fine : goal.taken_back-requires-clause-fine
+taken_back-requires-clause-fine c = not_refused c.requires.0 c.args.done.now (returned c.args.self.now) c.requires.1
 
 pub restored-requires-clause-sound : goal.restored-requires-clause-sound
 restored-requires-clause-sound c =
