@@ -7,6 +7,7 @@ use Rattle.item_definitions.specs.Children.{child_count}
 use Rattle.item_definitions.specs.Position.{Range, IsIn, IsRange}
 use Rattle.item_definitions.specs.Shift.{IsWithinLimits, carried_ends}
 use Rattle.operation_definitions.specs.Operation.{Operation, too_large, too_deep}
+use Rattle.item_definitions.proofs.Sizes.{within-item, length-count}
 use Rattle.operation_definitions.specs.After.{◌>>=◌, check, after, effect, limited, most_items, most_levels}
 use Rattle.operation_definitions.specs.Reversed.{IsLimited, HasPlaces}
 use Rattle.operation_definitions.proofs.Steps.{step-ok, check-true}
@@ -15,35 +16,11 @@ use Rattle.document_definitions.specs.Document.{shift_of}
 use Rattle.document_definitions.proofs.Inside.{Inside, in_at, inside}
 use Rattle.document_definitions.proofs.Ranges.{carried-ends}
 
--- the counts of the items in an element
-depth-list : (children : Items) → inner_depth children ≡ depth_of (list_of children)
-depth-list none = refl
-depth-list (more item items) = ap (max (item_depth item)) (depth-list items)
-
-count-list : (children : Items) → inner_count children ≡ count_of (list_of children)
-count-list none = refl
-count-list (more item items) = ap (λ n. item_count item + n) (count-list items)
-
-within-item : (item : Item) (items : List Item) → inner item ≡ Some items → (depth_of items + 1 ≤ item_depth item) × (count_of items + 1 ≤ item_count item)
-within-item (character scalar attributes) items e = absurd cc
-within-item (element id name attributes children) items e =
-    let same : list_of children ≡ items = cc in
-    let depth : inner_depth children ≡ depth_of items = depth-list children ∙ ap depth_of same in
-    let count : inner_count children ≡ count_of items = count-list children ∙ ap count_of same in
-    (omega (arith, depth), omega (arith, count))
-
+-- what is in an element of a list is smaller than the list
 within-list : (xs : List Item) (i : ℕ) (items : List Item) → in_at xs i ≡ Some items → (depth_of items + 1 ≤ depth_of xs) × (count_of items + 1 ≤ count_of xs) × (i < length xs)
 within-list [] i items e = absurd cc
 within-list (x ∷ xs) zero items e = (let w = within-item x items e in (omega (arith, w.0), omega (arith, w.1), omega arith))
 within-list (x ∷ xs) (suc i) items e = (let w = within-list xs i items e in (omega (arith, w.0), omega (arith, w.1), omega (arith, w.2)))
-
-item-one : (item : Item) → 1 ≤ item_count item
-item-one (character scalar attributes) = omega arith
-item-one (element id name attributes children) = omega arith
-
-length-count : (xs : List Item) → length xs ≤ count_of xs
-length-count [] = omega arith
-length-count (x ∷ xs) = (let a = item-one x in let b = length-count xs in omega (arith, a, b))
 
 -- the numbers of a position, and how many there are
 bounds : (xs : List Item) (position : List ℕ) → Inside xs position → (length position ≤ depth_of xs + 1) × All (λ n. n ≤ count_of xs) position

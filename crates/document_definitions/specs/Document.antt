@@ -46,6 +46,7 @@ abbrev mutual
   ids_of_item (character scalar attributes) = []
   ids_of_item (element id name attributes children) = id ∷ ids_of_inner children
 
+  -- the ids of all elements in an element
   pub ids_of_inner : Items → List ℕ
   ids_of_inner none = []
   ids_of_inner (more item items) = ids_of_item item ++ ids_of_inner items

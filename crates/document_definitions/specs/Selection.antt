@@ -21,12 +21,15 @@ pub record Selection : Type 0 where
   pub backward : Bool
   pub overrides : Overrides
 
+-- the two positions are one (after `Position.isEqual` of CKEditor 5's model)
 abbrev pub same_position : List ℕ → List ℕ → Bool
 same_position = pointwise nat_eq
 
+-- a range starts where it ends (after `Range.isCollapsed`)
 abbrev pub is_collapsed : Range → Bool
 is_collapsed range = same_position range.start range.end
 
+-- the two ranges are one (after `Range.isEqual`)
 abbrev pub same_range : Range → Range → Bool
 same_range range other = same_position range.start other.start && same_position range.end other.end
 
@@ -50,6 +53,7 @@ abbrev pub of_character : Item → Option Attributes
 of_character (character scalar attributes) = Some attributes
 of_character (element id name attributes children) = None
 
+-- an item is a character
 abbrev pub is_character : Item → Bool
 is_character (character scalar attributes) = true
 is_character (element id name attributes children) = false

@@ -4,3 +4,4 @@ pub mod Covers
 pub mod Distinct
 pub mod Fewest
 pub mod Minimal
+pub mod Sizes

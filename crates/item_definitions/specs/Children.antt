@@ -54,6 +54,7 @@ abbrev mutual
   walk_item path (character scalar attributes) = (path, character scalar attributes) ∷ []
   walk_item path (element id name attributes children) = (path, element id name attributes children) ∷ walk_inner path 0 children
 
+  -- the same of the items in an element: the path is that of the element, and the first of them has this index
   pub walk_inner : List ℕ → ℕ → Items → List (List ℕ × Item)
   walk_inner path index none = []
   walk_inner path index (more item items) = walk_item (path ++ index ∷ []) item ++ walk_inner path (index + 1) items

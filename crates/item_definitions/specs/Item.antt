@@ -54,6 +54,7 @@ abbrev mutual
   item_count (character scalar attributes) = 1
   item_count (element id name attributes children) = 1 + inner_count children
 
+  -- how many items there are in an element, at all depths
   pub inner_count : Items → ℕ
   inner_count none = 0
   inner_count (more item items) = item_count item + inner_count items
@@ -64,6 +65,7 @@ abbrev mutual
   item_depth (character scalar attributes) = 1
   item_depth (element id name attributes children) = 1 + inner_depth children
 
+  -- how many levels of items there are in an element
   pub inner_depth : Items → ℕ
   inner_depth none = 0
   inner_depth (more item items) = max (item_depth item) (inner_depth items)

@@ -6,6 +6,7 @@ use Rattle.ck_base.specs.declared.value.Value.{Value as AttributeValue}
 use Rattle.ck_base.specs.declared.value.Value.TheVariants.{Whole, Truth, Text}
 use Rattle.item_definitions.specs.Item.{Item, Items, character, element, none, more, list_of, items_of, Attributes}
 
+-- a value as one of three kinds of parts, and back
 abbrev value_parts : AttributeValue → ℤ ⊎ (Bool ⊎ List ℕ)
 value_parts (Whole number) = inl number
 value_parts (Truth truth) = inr (inl truth)
@@ -16,11 +17,13 @@ value_from (inl number) = Whole number
 value_from (inr (inl truth)) = Truth truth
 value_from (inr (inr text)) = Text text
 
+-- no value is lost
 pub value_back : (value : AttributeValue) → value_from (value_parts value) ≡ value
 value_back (Whole number) = refl
 value_back (Truth truth) = refl
 value_back (Text text) = refl
 
+-- a code for attributes
 abbrev pub coded_attributes : Coded Attributes
 coded_attributes =
     coded_list (coded× (coded_list coded_ℕ) (code_by (ℤ ⊎ (Bool ⊎ List ℕ)) (coded⊎ coded_ℤ (coded⊎ coded_bool (coded_list coded_ℕ))) value_parts value_from value_back))
@@ -38,6 +41,7 @@ abbrev mutual
   inner_tokens none rest = rest
   inner_tokens (more item items) rest = item_tokens item (inner_tokens items rest)
 
+-- what an element is read to: it goes before the items of the list that is open round it
 abbrev closed : (Items → Item) → Items → List Items → Items × List Items
 closed make children [] = (more (make children) none, [])
 closed make children (next ∷ open_lists) = (more (make children) next, open_lists)
@@ -49,6 +53,7 @@ read (inl token ∷ rest) = (more (character token.0 token.1) (read rest).0, (re
 read (inr (inl token) ∷ rest) = closed (element token.0 token.1.0 token.1.1) (read rest).0 (read rest).1
 read (inr (inr end) ∷ rest) = (none, (read rest).0 ∷ (read rest).1)
 
+-- some children, and others behind them
 abbrev joined : Items → Items → Items
 joined none items = items
 joined (more item front) items = more item (joined front items)
@@ -73,10 +78,12 @@ list_of-items_of : (items : List Item) → list_of (items_of items) ≡ items
 list_of-items_of [] = refl
 list_of-items_of (item ∷ items) = ap (λ rest. item ∷ rest) (list_of-items_of items)
 
+-- no items are lost
 pub items_back : (items : List Item) → list_of (read (inner_tokens (items_of items) [])).0 ≡ items
 items_back items =
     ap (λ (r : Items × List Items). list_of r.0) (read-inner (items_of items) []) ∙ ap list_of (joined-none (items_of items)) ∙ list_of-items_of items
 
+-- a code for lists of items
 abbrev pub coded_items : Coded (List Item)
 coded_items =
     code_by (List Token) (coded_list (coded⊎ (coded× coded_ℕ coded_attributes) (coded⊎ (coded× coded_ℕ (coded× (coded_list coded_ℕ) coded_attributes)) coded_ℕ)))

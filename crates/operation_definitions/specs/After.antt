@@ -12,10 +12,11 @@ use Rattle.item_definitions.specs.Shift.{carry_remove, forward}
 use Rattle.operation_definitions.specs.Level.{put_in, take_out, give, rename_at, split_at, merge_at}
 use Rattle.operation_definitions.specs.Operation.{in_tree, in_cell, fresh, from_cell, Operation, insert, move, attribute, rename, split, merge, marker, found_value, found_name, Fault, no_place, not_flat, into_itself, old_differs, not_neighbours, cell_state, too_large, too_deep}
 
--- the most items under the root, and the most levels of them
+-- the most items under the root, at all depths
 abbrev pub most_items : ℕ
 most_items = 1000000
 
+-- the most levels of items, one in another
 abbrev pub most_levels : ℕ
 most_levels = 64
 
@@ -34,6 +35,7 @@ check false fault = Err fault
 abbrev pub in_cell_at : List (List Item) → ℕ → List Item
 in_cell_at cells number = get_or cells number []
 
+-- a list has nothing in it
 abbrev pub is_empty : {A : Type 0} → List A → Bool
 is_empty [] = true
 is_empty (x ∷ xs) = false

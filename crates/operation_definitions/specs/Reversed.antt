@@ -33,6 +33,7 @@ abbrev mutual
   IsItemOrdered (character scalar attributes) = IsOrdered attributes
   IsItemOrdered (element id name attributes children) = IsOrdered attributes × IsInnerOrdered children
 
+  -- so are those of all items in an element
   pub IsInnerOrdered : Items → Type 0
   IsInnerOrdered none = Unit {0}
   IsInnerOrdered (more item items) = IsItemOrdered item × IsInnerOrdered items
