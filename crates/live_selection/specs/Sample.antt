@@ -11,6 +11,7 @@ bold = (98 ∷ [], Truth true) ∷ []
 abbrev pub plain_a : Item
 plain_a = character 97 []
 
+-- the character `a` in bold
 abbrev pub bold_a : Item
 bold_a = character 97 bold
 

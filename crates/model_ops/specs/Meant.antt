@@ -8,14 +8,17 @@ use Rattle.model_ops.specs.declared.operation.Source.TheVariants as source
 use Rattle.model_ops.specs.declared.operation.Operation.{Operation}
 use Rattle.model_ops.specs.declared.operation.Operation.TheVariants.{Insert, Move, Attribute, Rename, Split, Merge, Marker}
 
+-- the code's place as that of the definitions
 abbrev pub place_of : Place → meant.Place
 place_of (place.Tree position) = in_tree position
 place_of (place.Cell number) = in_cell number
 
+-- the code's source of a second element as that of the definitions
 abbrev pub source_of : Source → meant.Source
 source_of (source.Fresh id) = fresh id
 source_of (source.Cell number) = from_cell number
 
+-- the code's operation as that of the definitions
 abbrev pub operation_of : Operation → meant.Operation
 operation_of (Insert at items) = insert at items
 operation_of (Move from count to) = move (place_of from) count (place_of to)

@@ -6,10 +6,12 @@ use Rattle.model_pos.specs.declared.shifts.Stick.TheVariants.{ToNext, ToPrevious
 use Rattle.model_pos.specs.declared.shifts.Shift.{Shift}
 use Rattle.model_pos.specs.declared.shifts.Shift.TheVariants.{Stay, Insert, Remove, Move, Split, Merge}
 
+-- the code's stick as that of the definitions
 abbrev pub stick_of : Stick → meant.Stick
 stick_of ToNext = to_next
 stick_of ToPrevious = to_previous
 
+-- the code's shift as that of the definitions
 abbrev pub shift_of : Shift → meant.Shift
 shift_of Stay = stay
 shift_of (Insert at count) = insert at count

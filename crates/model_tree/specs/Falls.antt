@@ -24,5 +24,6 @@ most_depth : (nodes : List Node) → most deep-Node nodes ≤ depth_of (items_in
 most_depth [] = omega arith
 most_depth (node ∷ nodes) = omega (arith, node_larger node, most_depth nodes, depth-append (items_at node) (items_in nodes))
 
+-- nodes aren't deeper than the items that they stand for
 pub list_larger : (nodes : List Node) → max (most deep-Node nodes) 0 ≤ depth_of (items_in nodes)
 list_larger nodes = omega (arith, most_depth nodes)

@@ -4,6 +4,7 @@ use Rattle.model_tree.specs.Nodes.{items_in, IsNormal}
 use Rattle.model_tree.specs.Sizes.{AreSizes}
 use Rattle.operation_definitions.specs.Reversed.{AreOrdered}
 
+-- the nodes are in normal form, the sizes are those of the items, and the keys of these are in order
 pub record IsKept (inside : Inside) : Type 0 where
   pub normal : IsNormal inside.nodes.value.items
   pub sizes : AreSizes (items_in inside.nodes.value.items) inside.sizes.long inside.sizes.count inside.sizes.depth
