@@ -1,8 +1,8 @@
 -- Positions in a tree that keeps to its limits keep to theirs.
-use Rattle.std.proofs.Common.{◌≡◌, ℕ, zero, suc, ◌+◌, ◌<◌, ◌≤◌, max, true, nat_le, List, [], ◌∷◌, length, Some, All, Ok, refl, ap, ◌∙◌, subst, arith}
+use Rattle.std.proofs.Common.{◌≡◌, ℕ, zero, suc, ◌+◌, ◌<◌, ◌≤◌, true, nat_le, List, [], ◌∷◌, length, Some, All, Ok, ◌∙◌, subst, arith}
 use Rattle.std.proofs.lemmas.Bool.Decides.{nat_tests}
 use Rattle.std.proofs.lemmas.List.Elements.{All-cons}
-use Rattle.item_definitions.specs.Item.{Item, Items, character, element, none, more, list_of, inner, item_count, inner_count, item_depth, inner_depth, count_of, depth_of}
+use Rattle.item_definitions.specs.Item.{Item, count_of, depth_of}
 use Rattle.item_definitions.specs.Children.{child_count}
 use Rattle.item_definitions.specs.Position.{Range, IsIn, IsRange}
 use Rattle.item_definitions.specs.Shift.{IsWithinLimits, carried_ends}

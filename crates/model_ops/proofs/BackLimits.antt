@@ -4,7 +4,7 @@ use Rattle.std.specs.Prelude.{is_some}
 use Rattle.std.specs.Cmp.Lexicographic.{pointwise}
 use Rattle.std.proofs.lemmas.Bool.Decides.{nat_tests}
 use Rattle.std.proofs.lemmas.List.Elements.{All-cons}
-use Rattle.item_definitions.specs.Item.{Item, character, element, list_of, inner, item_count, inner_count, count_of, item_depth, inner_depth, depth_of}
+use Rattle.item_definitions.specs.Item.{Item, inner, item_count, count_of, item_depth, depth_of}
 use Rattle.item_definitions.specs.Children.{parent_of, offset_of, children_at, at, at_index, in_item}
 use Rattle.item_definitions.specs.Position.{behind}
 use Rattle.item_definitions.specs.Shift.{IsWithinLimits, to_next, carry_insert, carry_remove}
@@ -22,7 +22,8 @@ use Rattle.operation_definitions.proofs.Simple.{State, after-effect, pair-first,
 use Rattle.operation_definitions.proofs.Cells.{holds-long}
 use Rattle.model_tree.specs.Limits.{IsTree}
 use Rattle.model_tree.proofs.AtPaths.{inside, at-through, set_in, with_in}
-use Rattle.model_tree.proofs.Limited.{count-list, depth-list, take_out_counts, take_out_stays}
+use Rattle.item_definitions.proofs.Sizes.{within-item}
+use Rattle.model_tree.proofs.Limited.{take_out_counts, take_out_stays}
 use Rattle.model_tree.proofs.Room.{put_in_count}
 use Rattle.model_tree.proofs.Removed.{place_there, carried_in}
 use Rattle.model_tree.proofs.Shown.{length_count}
@@ -32,14 +33,6 @@ use Rattle.model_ops.proofs.Limiting.{after_tree}
 use Rattle.model_ops.proofs.Merging.{left-count, end-joined}
 
 -- what is in an element of a list is smaller than the list
-within-item : (item : Item) (items : List Item) → inner item ≡ Some items → (depth_of items + 1 ≤ item_depth item) × (count_of items + 1 ≤ item_count item)
-within-item (character scalar attributes) items e = absurd cc
-within-item (element id name attributes children) items e =
-    let same : list_of children ≡ items = cc in
-    let depth : inner_depth children ≡ depth_of items = depth-list children ∙ ap depth_of same in
-    let count : inner_count children ≡ count_of items = count-list children ∙ ap count_of same in
-    (omega (arith, depth), omega (arith, count))
-
 within-list : (xs : List Item) (index : ℕ) (item : Item) (items : List Item) → slice_get xs index ≡ Some item → inner item ≡ Some items → (depth_of items + 1 ≤ depth_of xs) × (count_of items + 1 ≤ count_of xs) × (index < length xs)
 within-list [] index item items e h = absurd cc
 within-list (x ∷ xs) zero item items e h =

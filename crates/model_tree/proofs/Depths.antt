@@ -7,11 +7,12 @@ use Rattle.item_definitions.specs.Shift.{carry_remove, rule_remove}
 use Rattle.operation_definitions.specs.Level.{put_in, take_out}
 use Rattle.operation_definitions.specs.After.{stands}
 use Rattle.operation_definitions.proofs.Lifting.{map-some, then-some}
-use Rattle.operation_definitions.proofs.Levels.{replaced}
+use Rattle.operation_definitions.proofs.Levels.{replaced, three}
 use Rattle.operation_definitions.proofs.Moves.{cut, decide, within-same, within-other}
 use Rattle.model_tree.specs.Limits.{changed, moved}
 use Rattle.model_tree.proofs.AtPaths.{inside}
-use Rattle.model_tree.proofs.Limited.{at-depths, replace-depths, depth-list, three, three-depth}
+use Rattle.item_definitions.proofs.Sizes.{depth-list}
+use Rattle.model_tree.proofs.Limited.{at-depths, replace-depths, three-depth}
 use Rattle.model_tree.proofs.Room.{put_in_depth}
 
 -- what an element has in it is less deep than the list that it is in

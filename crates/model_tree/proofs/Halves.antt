@@ -18,7 +18,8 @@ use Rattle.model_tree.proofs.AtPaths.{at-fails}
 use Rattle.model_tree.proofs.Puts.{nowhere, memory, changed_gives, run-fails}
 use Rattle.model_tree.proofs.Names.{no-one, this_one}
 use Rattle.model_tree.proofs.Counts.{count-append, depth-append, count-inner, depth-inner}
-use Rattle.model_tree.proofs.Limited.{at-counts, at-depths, replace-counts, replace-depths, count-list, depth-list}
+use Rattle.model_tree.proofs.Limited.{at-counts, at-depths, replace-counts, replace-depths}
+use Rattle.item_definitions.proofs.Sizes.{count-list, depth-list}
 
 -- two elements put together
 pub two_halves : (head shell : HeadParts) (offset : ℕ) (children front back first second both : List Item) → front ≡ take offset (drop 0 children) → back ≡ drop offset children

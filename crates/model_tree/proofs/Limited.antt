@@ -1,21 +1,13 @@
 -- Changes that keep a tree to its limits.
-use Rattle.std.proofs.Common.{◌≡◌, ℕ, zero, suc, ◌+◌, ◌≤◌, max, List, [], ◌∷◌, ◌++◌, take, drop, Option, Some, None, slice_get, slice_set, refl, sym, ap, ◌∙◌, arith}
-use Rattle.std.proofs.lemmas.List.{take-append-drop}
-use Rattle.item_definitions.specs.Item.{Item, Items, character, element, none, more, list_of, inner, with_inner, item_count, inner_count, count_of, item_depth, inner_depth, depth_of}
+use Rattle.std.proofs.Common.{◌≡◌, ℕ, zero, suc, ◌+◌, ◌≤◌, max, List, [], ◌∷◌, ◌++◌, take, drop, Option, Some, None, slice_get, slice_set, ap, arith}
+use Rattle.item_definitions.specs.Item.{Item, character, element, list_of, inner, with_inner, item_count, count_of, item_depth, depth_of}
 use Rattle.item_definitions.specs.Children.{Change, at}
+use Rattle.item_definitions.proofs.Sizes.{count-list, depth-list}
 use Rattle.operation_definitions.specs.Level.{replace, take_out}
-use Rattle.operation_definitions.proofs.Levels.{replaced}
+use Rattle.operation_definitions.proofs.Levels.{replaced, three}
 use Rattle.model_tree.specs.Limits.{IsTree}
 use Rattle.model_tree.proofs.Counts.{count-append, depth-append, count-inner, depth-inner}
 use Rattle.model_tree.proofs.AtPaths.{inside}
-
-pub count-list : (items : Items) → inner_count items ≡ count_of (list_of items)
-count-list none = refl
-count-list (more item items) = ap (λ n. item_count item + n) (count-list items)
-
-pub depth-list : (items : Items) → inner_depth items ≡ depth_of (list_of items)
-depth-list none = refl
-depth-list (more item items) = ap (max (item_depth item)) (depth-list items)
 
 -- other items in an element
 with-count : (item : Item) (children new : List Item) → inner item ≡ Some children → item_count (with_inner new item) + count_of children ≡ item_count item + count_of new
@@ -58,20 +50,6 @@ at-depths f h (index ∷ path) xs ys r e =
     let i = inside xs index (at path f) ys r e in
     let below = at-depths f h path i.children i.new r i.made in
     omega (arith, set-depth xs index i.item (with_inner i.new i.item) i.there (with-depth i.item i.children i.new i.here below), ap depth_of i.whole)
-
-drop-none : {X : Type 0} (n : ℕ) → drop {A = X} n [] ≡ []
-drop-none zero = refl
-drop-none (suc n) = refl
-
-drop-add : {X : Type 0} (offset count : ℕ) (xs : List X) → drop (offset + count) xs ≡ drop count (drop offset xs)
-drop-add zero count xs = (let e : 0 + count ≡ count = omega arith in ap (λ n. drop n xs) e)
-drop-add (suc offset) count [] = drop-none (suc offset + count) ∙ sym (drop-none count)
-drop-add (suc offset) count (x ∷ xs) = (let e : suc offset + count ≡ suc (offset + count) = omega arith in ap (λ n. drop n (x ∷ xs)) e ∙ drop-add offset count xs)
-
-pub three : {X : Type 0} (offset count : ℕ) (xs : List X) → take offset xs ++ (take count (drop offset xs) ++ drop (offset + count) xs) ≡ xs
-three offset count xs =
-    ap (λ rest. take offset xs ++ (take count (drop offset xs) ++ rest)) (drop-add offset count xs)
-    ∙ ap (λ rest. take offset xs ++ rest) (take-append-drop count (drop offset xs)) ∙ take-append-drop offset xs
 
 three-count : (a b c : List Item) → count_of (a ++ (b ++ c)) ≡ count_of a + (count_of b + count_of c)
 three-count a b c = omega (arith, count-append a (b ++ c), count-append b c)

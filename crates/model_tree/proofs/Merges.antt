@@ -16,7 +16,8 @@ use Rattle.model_tree.proofs.AtPaths.{at-fails}
 use Rattle.model_tree.proofs.Puts.{nowhere, made, fault, memory, run-fails}
 use Rattle.model_tree.proofs.Names.{this_one}
 use Rattle.model_tree.proofs.Counts.{count-append, depth-append, count-inner, depth-inner}
-use Rattle.model_tree.proofs.Limited.{at-counts, at-depths, replace-counts, replace-depths, count-list, depth-list}
+use Rattle.model_tree.proofs.Limited.{at-counts, at-depths, replace-counts, replace-depths}
+use Rattle.item_definitions.proofs.Sizes.{count-list, depth-list}
 
 pub one_of_two : (head : HeadParts) (front back children made : List Item) → children ≡ front ++ back → made ≡ element_of head children ∷ [] → made ≡ element_of head (front ++ back) ∷ []
 one_of_two head front back children made c m = m ∙ ap (λ items. element_of head items ∷ []) c

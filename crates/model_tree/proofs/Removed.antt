@@ -9,12 +9,11 @@ use Rattle.item_definitions.proofs.Paths.{parent_of-push, offset_of-push}
 use Rattle.operation_definitions.specs.Level.{put_in, take_out}
 use Rattle.operation_definitions.specs.After.{stands}
 use Rattle.operation_definitions.proofs.Lifting.{inner-with_inner, get-set}
-use Rattle.operation_definitions.proofs.Levels.{replaced}
+use Rattle.operation_definitions.proofs.Levels.{replaced, three}
 use Rattle.operation_definitions.proofs.Moves.{cut, cut-some, decide, within-same, within-other}
 use Rattle.operation_definitions.proofs.Stays.{Is, put_in-room, put_in-fits}
 use Rattle.model_tree.proofs.AtPaths.{at-nowhere, at-fails, at-through, inside}
 use Rattle.model_tree.proofs.Found.{get-front, get-back}
-use Rattle.model_tree.proofs.Limited.{three}
 use Rattle.model_tree.proofs.Puts.{memory}
 
 -- a position is there exactly where its parent has so many items

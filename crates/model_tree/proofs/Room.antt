@@ -3,11 +3,12 @@ use Rattle.std.proofs.Common.{◌≡◌, ℕ, zero, suc, ◌+◌, ◌<◌, ◌�
 use Rattle.item_definitions.specs.Item.{Item, character, element, list_of, inner, with_inner, count_of, item_depth, depth_of}
 use Rattle.item_definitions.specs.Children.{at}
 use Rattle.operation_definitions.specs.Level.{put_in}
-use Rattle.operation_definitions.proofs.Levels.{replaced}
+use Rattle.operation_definitions.proofs.Levels.{replaced, three}
 use Rattle.model_tree.specs.Limits.{IsTree, changed, StaysTree}
 use Rattle.model_tree.proofs.Counts.{count-append, depth-append, depth-inner}
 use Rattle.model_tree.proofs.AtPaths.{inside}
-use Rattle.model_tree.proofs.Limited.{at-counts, replace-counts, depth-list, three, three-depth}
+use Rattle.item_definitions.proofs.Sizes.{depth-list}
+use Rattle.model_tree.proofs.Limited.{at-counts, replace-counts, three-depth}
 
 -- the items that came in stand before those behind the offset
 came : (new run made : List Item) (r : Unit {0}) → ◌≡◌ {A = Option (List Item × Unit {0})} (Some (new ++ run, tt)) (Some (made, r)) → new ++ run ≡ made

@@ -7,7 +7,7 @@ use Rattle.model_tree.specs.Parts.{TextParts, HeadParts}
 use Rattle.model_tree.specs.Nodes.{characters}
 use Rattle.model_tree.specs.Reading.{shown_character, shown_element, shown_of}
 use Rattle.model_tree.proofs.Counts.{count-inner, length-characters}
-use Rattle.model_tree.proofs.Limited.{count-list}
+use Rattle.item_definitions.proofs.Sizes.{count-list}
 use Rattle.model_tree.proofs.AtPaths.{through}
 
 pub character_shown : (read : List ℕ) (text : TextParts) (index scalar : ℕ) (attributes : Attributes) → read ≡ text.scalars → attributes ≡ text.attributes → index < length (characters text)
