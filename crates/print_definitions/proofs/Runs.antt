@@ -11,7 +11,7 @@ use Rattle.machine_definitions.specs.Texts.{printed_scalar}
 use Rattle.print_definitions.specs.Marks.{Ends, wanted, inside, outer_marks, marked}
 use Rattle.print_definitions.specs.Values.{attributes_text, open_tag, close_tag}
 use Rattle.print_definitions.specs.ModelText.{same_attributes, goes_on, before_character, run_start, run_end, run_of, item_text, inner_items_text, items_text, model_text}
-use Rattle.print_definitions.specs.Runs.{Piece, run, tagged, items_of_piece, IsNoLonger, AreApart, AreRuns, in_text, piece_text, pieces_text}
+use Rattle.print_definitions.specs.Runs.{Piece, run, tagged, items_of_piece, IsNoLonger, AreApart, AreRuns, in_text, pieces_text}
 
 -- ---- equal attributes
 
@@ -78,9 +78,9 @@ regrouped closed marks opened one others behind rest =
     append_assoc (closed ++ (marks ++ opened)) one (others ++ (behind ++ rest))
     ∙ append_assoc closed (marks ++ opened) (one ++ (others ++ (behind ++ rest)))
     ∙ ap (λ t. closed ++ t) (append_assoc marks opened (one ++ (others ++ (behind ++ rest)))
-      ∙ ap (λ t. marks ++ (opened ++ t)) (sym (append_assoc one others (behind ++ rest)) ∙ sym (append_assoc (one ++ others) behind rest))
-      ∙ ap (λ t. marks ++ t) (sym (append_assoc opened ((one ++ others) ++ behind) rest))
-      ∙ sym (append_assoc marks (opened ++ ((one ++ others) ++ behind)) rest))
+    ∙ ap (λ t. marks ++ (opened ++ t)) (sym (append_assoc one others (behind ++ rest)) ∙ sym (append_assoc (one ++ others) behind rest))
+    ∙ ap (λ t. marks ++ t) (sym (append_assoc opened ((one ++ others) ++ behind) rest))
+    ∙ sym (append_assoc marks (opened ++ ((one ++ others) ++ behind)) rest))
 
 -- the first piece doesn't go on the run before it
 abbrev IsNew : Option Attributes → List Piece → Type 0
@@ -108,11 +108,11 @@ printed_from ends offset before (run attributes scalar scalars ∷ pieces) new h
     let others = marked (outer_marks ends) (offset + 1) scalars in
     let after : List Item = flat_map items_of_piece pieces in
     let count : (offset + 1) + length scalars ≡ offset + length (items_of_piece (run attributes scalar scalars)) =
-        omega (arith, length_run attributes scalars) in
+    omega (arith, length_run attributes scalars) in
     let later = printed_from ends (offset + length (items_of_piece (run attributes scalar scalars))) (Some attributes) pieces h.0 h.1 in
     ap (λ test. (before_character test before attributes marks ++ printed_scalar scalar) ++ items_text ends (offset + 1) (Some attributes) (map (λ scalar. character scalar attributes) scalars ++ after)) (not_on before attributes scalar scalars pieces new)
     ∙ ap (λ t. ((run_end before ++ (marks ++ run_start attributes)) ++ printed_scalar scalar) ++ t) (going ends (offset + 1) attributes scalars after
-      ∙ ap (λ at. others ++ items_text ends at (Some attributes) after) count ∙ ap (λ t. others ++ t) later)
+    ∙ ap (λ at. others ++ items_text ends at (Some attributes) after) count ∙ ap (λ t. others ++ t) later)
     ∙ regrouped (run_end before) marks (run_start attributes) (printed_scalar scalar) others (run_end (Some attributes)) (pieces_text ends (offset + length (items_of_piece (run attributes scalar scalars))) pieces)
     ∙ ap (λ t. run_end before ++ ((marks ++ t) ++ pieces_text ends (offset + length (items_of_piece (run attributes scalar scalars))) pieces)) (sym (tagged_is attributes (printed_scalar scalar ++ others)))
 
@@ -123,24 +123,24 @@ printed_runs ends items pieces h = ap (items_text (wanted ends) 0 None) (sym h.w
 
 runs_with : (scalar : ℕ) (attributes : Attributes) (items : List Item) (pieces : List Piece) → AreRuns items pieces → (more : List Piece) × AreRuns (character scalar attributes ∷ items) more
 runs_with scalar attributes items [] h =
-    (run attributes scalar [] ∷ [], record { whole = ap (λ others. character scalar attributes ∷ others) h.whole; apart = (tt, tt); })
+    (run attributes scalar [] ∷ [], record { whole = ap (λ others. character scalar attributes ∷ others) h.whole; apart = (tt, tt) })
 runs_with scalar attributes items (tagged id name others children ∷ pieces) h =
-    (run attributes scalar [] ∷ tagged id name others children ∷ pieces, record { whole = ap (λ others. character scalar attributes ∷ others) h.whole; apart = (tt, h.apart); })
+    (run attributes scalar [] ∷ tagged id name others children ∷ pieces, record { whole = ap (λ others. character scalar attributes ∷ others) h.whole; apart = (tt, h.apart) })
 runs_with scalar attributes items (run others next scalars ∷ pieces) h = go (same_attributes attributes others) refl
   where
     go : (t : Bool) → same_attributes attributes others ≡ t → (more : List Piece) × AreRuns (character scalar attributes ∷ items) more
     go true e =
         (let same : attributes ≡ others = equal_attributes attributes others e in
-        (run others scalar (next ∷ scalars) ∷ pieces, record { whole = (λ i. character scalar (sym same i) ∷ h.whole i); apart = h.apart; }))
+        (run others scalar (next ∷ scalars) ∷ pieces, record { whole = (λ i. character scalar (sym same i) ∷ h.whole i); apart = h.apart }))
     go false e =
-        (run attributes scalar [] ∷ run others next scalars ∷ pieces, record { whole = ap (λ others. character scalar attributes ∷ others) h.whole; apart = ((λ same. differs (sym e ∙ ap (same_attributes attributes) (sym same) ∙ own_attributes attributes)), h.apart); })
+        (run attributes scalar [] ∷ run others next scalars ∷ pieces, record { whole = ap (λ others. character scalar attributes ∷ others) h.whole; apart = ((λ same. differs (sym e ∙ ap (same_attributes attributes) (sym same) ∙ own_attributes attributes)), h.apart) })
       where
         differs : false ≡ true → ⊥
         differs e = cc
 
 pub some_runs : (items : List Item) → (pieces : List Piece) × AreRuns items pieces
-some_runs [] = ([], record { whole = refl; apart = tt; })
+some_runs [] = ([], record { whole = refl; apart = tt })
 some_runs (character scalar attributes ∷ items) = let later = some_runs items in runs_with scalar attributes items later.0 later.1
 some_runs (element id name attributes children ∷ items) =
     let later = some_runs items in
-    (tagged id name attributes children ∷ later.0, record { whole = ap (λ others. element id name attributes children ∷ others) later.1.whole; apart = later.1.apart; })
+    (tagged id name attributes children ∷ later.0, record { whole = ap (λ others. element id name attributes children ∷ others) later.1.whole; apart = later.1.apart })
