@@ -24,16 +24,20 @@ pub fn values()
 pub fn attributes()
     ensures absent { read_by (attributes_field [] (codes "attributes")) (codes "{}") ≡ Ok [] }
     ensures null { read_by (attributes_field [] (codes "attributes")) (codes "{\"attributes\":null}") ≡ Err (BadField (codes "/attributes")) }
-    ensures ordered { read_by (attributes_field [] (codes "attributes")) (codes "{\"attributes\":{\"b\":1,\"a\":true}}") ≡ Ok ((codes "a", Truth true) ∷ (codes "b", Whole (pos 1)) ∷ []) }
+    ensures ordered { read_by (attributes_field [] (codes "attributes")) (codes "{\"attributes\":{\"b\":1,\"a\":true}}")
+        ≡ Ok ((codes "a", Truth true) ∷ (codes "b", Whole (pos 1)) ∷ []) }
     ensures other_name { read_by (attributes_field [] (codes "attributes")) (codes "{\"attributes\":{\"a b\":1}}") ≡ Err (BadField (codes "/attributes/a b")) }
-    ensures other_value { read_by (attributes_field [] (codes "attributes")) (codes "{\"attributes\":{\"b\":null,\"a\":[]}}") ≡ Err (BadField (codes "/attributes/a")) }
+    ensures other_value { read_by (attributes_field [] (codes "attributes")) (codes "{\"attributes\":{\"b\":null,\"a\":[]}}")
+        ≡ Err (BadField (codes "/attributes/a")) }
 {}
 
 /// What is a path: the empty list, or a list as that of a position.
 pub fn paths()
     ensures root { read_by (path_field [] (codes "path")) (codes "{\"path\":[]}") ≡ Ok [] }
-    ensures most { read_by (path_field [] (codes "path")) (codes "{\"path\":[0,0,0,0,0,0,0,0,0,0,0,0,0,0,0,0,0,0,0,0,0,0,0,0,0,0,0,0,0,0,0,0,0,0,0,0,0,0,0,0,0,0,0,0,0,0,0,0,0,0,0,0,0,0,0,0,0,0,0,0,0,0,0,0,0]}") ≡ Ok (replicate 65 0) }
-    ensures too_many { read_by (path_field [] (codes "path")) (codes "{\"path\":[0,0,0,0,0,0,0,0,0,0,0,0,0,0,0,0,0,0,0,0,0,0,0,0,0,0,0,0,0,0,0,0,0,0,0,0,0,0,0,0,0,0,0,0,0,0,0,0,0,0,0,0,0,0,0,0,0,0,0,0,0,0,0,0,0,0]}") ≡ Err (BadField (codes "/path")) }
+    ensures most { read_by (path_field [] (codes "path")) (codes "{\"path\":[0,0,0,0,0,0,0,0,0,0,0,0,0,0,0,0,0,0,0,0,0,0,0,0,0,0,0,0,0,0,0,0,0,0,0,0,0,0,0,0,0,0,0,0,0,0,0,0,0,0,0,0,0,0,0,0,0,0,0,0,0,0,0,0,0]}")
+        ≡ Ok (replicate 65 0) }
+    ensures too_many { read_by (path_field [] (codes "path")) (codes "{\"path\":[0,0,0,0,0,0,0,0,0,0,0,0,0,0,0,0,0,0,0,0,0,0,0,0,0,0,0,0,0,0,0,0,0,0,0,0,0,0,0,0,0,0,0,0,0,0,0,0,0,0,0,0,0,0,0,0,0,0,0,0,0,0,0,0,0,0]}")
+        ≡ Err (BadField (codes "/path")) }
     ensures over { read_by (path_field [] (codes "path")) (codes "{\"path\":[4294967296]}") ≡ Err (BadField (codes "/path/0")) }
     ensures null { read_by (path_field [] (codes "path")) (codes "{\"path\":null}") ≡ Err (BadField (codes "/path")) }
 {}

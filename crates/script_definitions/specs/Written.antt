@@ -25,21 +25,30 @@ target_fields (OfElement path) = (codes "path", numbers_form path) ∷ []
 
 -- An edit with all of its fields. A script has no form for the insertion of items.
 abbrev pub edit_form : Edit → Data
-edit_form (InsertText at text attributes) = edit_object (codes "insertText") ((codes "at", numbers_form at) ∷ (codes "text", text_form text) ∷ (codes "attributes", attributes_form attributes) ∷ [])
-edit_form (InsertElement at name attributes) = edit_object (codes "insertElement") ((codes "at", numbers_form at) ∷ (codes "name", string name) ∷ (codes "attributes", attributes_form attributes) ∷ [])
+edit_form (InsertText at text attributes) =
+    edit_object (codes "insertText") ((codes "at", numbers_form at) ∷ (codes "text", text_form text) ∷ (codes "attributes", attributes_form attributes) ∷ [])
+edit_form (InsertElement at name attributes) =
+    edit_object (codes "insertElement") ((codes "at", numbers_form at) ∷ (codes "name", string name) ∷ (codes "attributes", attributes_form attributes) ∷ [])
 edit_form (Remove start end) = edit_object (codes "remove") ((codes "start", numbers_form start) ∷ (codes "end", numbers_form end) ∷ [])
-edit_form (Move start end to) = edit_object (codes "move") ((codes "start", numbers_form start) ∷ (codes "end", numbers_form end) ∷ (codes "to", numbers_form to) ∷ [])
-edit_form (SetAttribute target key value) = edit_object (codes "setAttribute") (target_fields target ++ (codes "key", string key) ∷ (codes "value", value_form value) ∷ [])
+edit_form (Move start end to) =
+    edit_object (codes "move") ((codes "start", numbers_form start) ∷ (codes "end", numbers_form end) ∷ (codes "to", numbers_form to) ∷ [])
+edit_form (SetAttribute target key value) =
+    edit_object (codes "setAttribute") (target_fields target ++ (codes "key", string key) ∷ (codes "value", value_form value) ∷ [])
 edit_form (RemoveAttribute target key) = edit_object (codes "removeAttribute") (target_fields target ++ (codes "key", string key) ∷ [])
 edit_form (Rename path name) = edit_object (codes "rename") ((codes "path", numbers_form path) ∷ (codes "name", string name) ∷ [])
 edit_form (Split at) = edit_object (codes "split") ((codes "at", numbers_form at) ∷ [])
 edit_form (Merge at) = edit_object (codes "merge") ((codes "at", numbers_form at) ∷ [])
-edit_form (Wrap start end name attributes) = edit_object (codes "wrap") ((codes "start", numbers_form start) ∷ (codes "end", numbers_form end) ∷ (codes "name", string name) ∷ (codes "attributes", attributes_form attributes) ∷ [])
+edit_form (Wrap start end name attributes) =
+    edit_object (codes "wrap") ((codes "start", numbers_form start) ∷ (codes "end", numbers_form end) ∷ (codes "name", string name) ∷
+    (codes "attributes", attributes_form attributes) ∷ [])
 edit_form (Unwrap path) = edit_object (codes "unwrap") ((codes "path", numbers_form path) ∷ [])
-edit_form (AddMarker name start end) = edit_object (codes "addMarker") ((codes "name", string name) ∷ (codes "start", numbers_form start) ∷ (codes "end", numbers_form end) ∷ [])
-edit_form (UpdateMarker name start end) = edit_object (codes "updateMarker") ((codes "name", string name) ∷ (codes "start", numbers_form start) ∷ (codes "end", numbers_form end) ∷ [])
+edit_form (AddMarker name start end) =
+    edit_object (codes "addMarker") ((codes "name", string name) ∷ (codes "start", numbers_form start) ∷ (codes "end", numbers_form end) ∷ [])
+edit_form (UpdateMarker name start end) =
+    edit_object (codes "updateMarker") ((codes "name", string name) ∷ (codes "start", numbers_form start) ∷ (codes "end", numbers_form end) ∷ [])
 edit_form (RemoveMarker name) = edit_object (codes "removeMarker") ((codes "name", string name) ∷ [])
-edit_form (Select start end backward) = edit_object (codes "select") ((codes "start", numbers_form start) ∷ (codes "end", numbers_form end) ∷ (codes "backward", boolean backward) ∷ [])
+edit_form (Select start end backward) =
+    edit_object (codes "select") ((codes "start", numbers_form start) ∷ (codes "end", numbers_form end) ∷ (codes "backward", boolean backward) ∷ [])
 edit_form (SelectionAttribute key value) = edit_object (codes "selectionAttribute") ((codes "key", string key) ∷ (codes "value", nullable_form value) ∷ [])
 edit_form (InsertItems at items) = null
 
