@@ -11,7 +11,8 @@ use Rattle.std.proofs.lemmas.Cmp.{tied_itself, eq_by_cmp_equiv}
 use Rattle.std.proofs.lemmas.Map.Views.{Contains-keys_from_lookup, IsSome-lookup_from_Contains}
 use Rattle.ck_base.specs.Entries.{name_cmp, IsOrdered, value_of, with_value, without, ChangesOnly}
 use Rattle.ck_base.proofs.Places.{same_name}
-use Rattle.ck_base.proofs.Ordered.{first, second, none_before, before_all}
+use Rattle.ck_base.proofs.Common.{first, second}
+use Rattle.ck_base.proofs.Ordered.{none_before, before_all}
 
 -- other names compare apart
 apart : (other key : List ℕ) → other ≢ key → is_eq (name_cmp other key) ≡ false

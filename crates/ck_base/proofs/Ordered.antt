@@ -1,35 +1,11 @@
 -- Lists of pairs in the order of their names stay so, and a name has its value where its place is.
-use Rattle.std.proofs.Common.{◌≡◌, ℕ, suc, ◌+◌, ◌<◌, length, slice_index_or, arith, List, [], ◌∷◌, Bool, true, false, ◌&&◌, T, Some, None, Result, Ok, Err, refl, sym, ap, subst}
+use Rattle.std.proofs.Common.{◌≡◌, ℕ, suc, ◌+◌, ◌<◌, length, slice_index_or, arith, List, [], ◌∷◌, true, Some, None, Result, Ok, Err, refl, ap, subst}
 use Rattle.std.specs.Ordering.{match_ordering, is_lt}
-use Rattle.std.specs.declared.cmp.Ordering.{Ordering}
 use Rattle.std.specs.declared.cmp.Ordering.TheVariants.{Less, Equal, Greater}
 use Rattle.std.specs.Cmp.Lexicographic.{nat_list_cmp_total}
 use Rattle.std.specs.FinMap.Entries.{is_sorted-put, below_all}
 use Rattle.ck_base.specs.Entries.{name_cmp, IsOrdered, value_of, with_value, without, place_from}
-
-both : (a b : Bool) → a ≡ true → b ≡ true → (a && b) ≡ true
-both true b p q = q
-both false b p q = p
-
-pub first : (a b : Bool) → (a && b) ≡ true → a ≡ true
-first true b p = refl
-first false b p = p
-
-pub second : (a b : Bool) → (a && b) ≡ true → b ≡ true
-second true b p = p
-second false b p = cc
-
-is_T : (b : Bool) → b ≡ true → T b
-is_T b e = subst T (sym e) tt
-
-is_true : (b : Bool) → T b → b ≡ true
-is_true true h = refl
-is_true false h = absurd h
-
-less : (o : Ordering) → is_lt o ≡ true → o ≡ Less
-less Less e = refl
-less Equal e = cc
-less Greater e = cc
+use Rattle.ck_base.proofs.Common.{both, first, second, is_T, is_true, less}
 
 same_ok : (n i : ℕ) → ◌≡◌ {A = Result ℕ ℕ} (Ok n) (Ok i) → i ≡ n + 0
 same_ok n i q = let e : n ≡ i = cc in omega (arith, e)

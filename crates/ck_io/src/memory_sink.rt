@@ -1,5 +1,5 @@
 //! A sink in memory, for tests.
-ghost use Rattle.std.specs.Prelude.{◌≡◌, ◌++◌, [], ◌^◌, ◌<◌, ◌≤◌, List, Option, Some, min, length, take, is_err, IfOk, IsErr, IsTrue, OnOk, OnErr};
+ghost use Rattle.std.specs.Prelude.{◌≡◌, ◌↔◌, ◌++◌, [], ◌^◌, ◌<◌, ◌≤◌, ◌||◌, List, Option, Some, min, length, take, true, false, not, IfOk, IsErr, IsTrue, OnOk, OnErr};
 ghost use Rattle.std.specs.Io.KnownBytes.{append_known};
 ghost use Rattle.ck_io.specs.Rose.{Rose};
 
@@ -7,13 +7,14 @@ use crate::calls::CallPlan;
 use crate::sink::{Sink, WriteFault};
 use std::marker::Model;
 
-/// A sink in memory that takes a bounded number of bytes in a call, and of which chosen writes fail. It tells what was
-/// written.
+/// A sink in memory that takes a bounded number of bytes in a call, and of which chosen writes fail, and no others but for want
+/// of memory. It tells what was written.
 #[derive(Drop)]
 pub struct MemorySink {
     most: u64,
     bytes: Vec<u8>,
     calls: CallPlan,
+    ran_out: bool,
 }
 
 impl Model for MemorySink {
@@ -22,7 +23,7 @@ impl Model for MemorySink {
 
     ghost Value = { GatheredBytes };
 
-    ghost view = { λ sink. record { most = sink.most; bytes = sink.bytes.items; calls = sink.calls } };
+    ghost view = { λ sink. record { most = sink.most; bytes = sink.bytes.items; calls = sink.calls; ran_out = sink.ran_out } };
 
     ghost invariant = { λ sink. 1 ≤ sink.most };
 }
@@ -36,11 +37,13 @@ impl MemorySink {
         ensures faults { ⟦<MemorySink as Sink>⟧.faults result ≡ 0 }
         ensures most { result.most ≡ most }
         ensures calls { result.calls ≡ record { failing = failing.items; made = 0; failed = 0 } }
+        ensures ran_out { result.ran_out ≡ false }
     {
         MemorySink {
             most,
             bytes: Vec::new(*failing.allocator()),
             calls: CallPlan::new(failing),
+            ran_out: false,
         }
     }
 
@@ -69,13 +72,22 @@ impl Sink for MemorySink {
         ensures never_falls { self.old.calls.failed ≤ self.new.calls.failed }
         ensures bounded { self.new.calls.failed < 2 ^ 64 }
 
-        // Which calls fail, and what stays.
-        ensures planned { IsTrue (next_fails self.old.calls) → IsErr result }
-        ensures calls { self.new.calls ≡ after_call self.old.calls (is_err result) }
-        ensures most { self.new.most ≡ self.old.most }
+        // Which calls fail, and all that a call changes.
+        ensures planned { IsErr result ↔ IsTrue (next_fails self.old.calls || self.new.ran_out) }
+        ensures after { IfOk result (λ taken. self.new ≡ record self.old {
+          bytes = self.old.bytes ++ take taken bytes.now;
+          calls = after_call self.old.calls false;
+          ran_out = false;
+        }) }
+        ensures after_failure { OnErr result (self.new ≡ record self.old {
+          calls = after_call self.old.calls true;
+          ran_out = not (next_fails self.old.calls);
+        }) }
     {
         let piece = &bytes[..bytes.len().min(self.most as usize)];
-        let fails = self.calls.next_fails() || self.bytes.extend_from_slice(piece).is_err();
+        let planned = self.calls.next_fails();
+        self.ran_out = !planned && self.bytes.extend_from_slice(piece).is_err();
+        let fails = planned || self.ran_out;
         self.calls.count(fails);
         if fails {
             return Err(WriteFault::Failed);

@@ -1,4 +1,3 @@
 pub mod Json
 pub mod OtherFields
 pub mod Offsets
-pub mod OnlyItem

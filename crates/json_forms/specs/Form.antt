@@ -1,4 +1,4 @@
--- Reading a form from a JSON value. What breaks the form first is refused with its path: `/` and the field's name or the index,
+-- Reading a form from a JSON value (RFC 8259). What breaks the form first is refused with its path: `/` and the field's name or the index,
 -- from the outside in.
 use Rattle.std.specs.Prelude.{◌≡◌, ◌≢◌, ℕ, ◌+◌, ◌^◌, List, [], ◌∷◌, ◌++◌, Bool, false, nat_lt, Option, Some, None, Result, Ok, Err, if◌then◌else◌, length, option_and_then, ⊤}
 use Rattle.std.specs.Str.{chars, is_utf8, bytes_eq}
@@ -17,14 +17,15 @@ abbrev pub ◌>>=◌ : {A B : Type 0} → Result A FormFault → (A → Result B
 (Err e) >>= f = Err e
 
 -- What a reader answers, seen by view, is what reading gives, unless memory runs out.
-abbrev pub Gives : {X Y : Type 0} → (X → Y) → Result X FormFault → Result Y FormFault → Type 0
-Gives view (Ok x) reading = reading ≡ Ok (view x)
-Gives view (Err fault) reading = fault ≢ NoMemory → reading ≡ Err fault
+abbrev pub Reads : {X Y : Type 0} → (X → Y) → Result X FormFault → Result Y FormFault → Type 0
+Reads view (Ok x) reading = reading ≡ Ok (view x)
+Reads view (Err fault) reading = fault ≢ NoMemory → reading ≡ Err fault
 
--- the path of a field, and that of a member of a list
+-- the path of a field. (After the JSON Pointers of RFC 6901, but that nothing is escaped.)
 abbrev pub field_path : List ℕ → List ℕ → List ℕ
 field_path path name = path ++ 47 ∷ chars name
 
+-- the path of a member of a list, by its index from 0
 abbrev pub index_path : List ℕ → ℕ → List ℕ
 index_path path index = path ++ 47 ∷ decimal index
 
@@ -72,6 +73,7 @@ abbrev pub is_position_length : List ℕ → Bool
 is_position_length [] = false
 is_position_length (n ∷ numbers) = nat_lt (length numbers) 65
 
+-- numbers that are enough for a position and not too many, or the place of the list
 unfoldable pub position_length_at : List ℕ → List ℕ → Result (List ℕ) FormFault
 position_length_at path numbers = if is_position_length numbers then Ok numbers else Err (BadField path)
 
@@ -95,16 +97,6 @@ refused_field path (Some key) = Err (BadField (field_path path key))
 -- no field but these
 unfoldable pub only_fields : List ℕ → List (List ℕ) → Data → Result ⊤ FormFault
 only_fields path names d = refused_field path (option_and_then (first_other names) (as_object d))
-
--- the one member of a list
-abbrev pub only_item : Items → Option Data
-only_item no_items = None
-only_item (item d no_items) = Some d
-only_item (item d (item e rest)) = None
-
--- a list of one member, and this member
-unfoldable pub only_item_field : List ℕ → List ℕ → Data → Result Data FormFault
-only_item_field path name d = or_bad (field_path path name) (option_and_then only_item (option_and_then as_array (get name d)))
 
 -- a field that is a text of a given wording
 unfoldable pub word_field : List ℕ → List ℕ → List ℕ → Data → Result ⊤ FormFault

@@ -1,2 +1,3 @@
 pub mod Form
 pub mod OtherFields
+pub mod Rows

@@ -7,7 +7,7 @@ ghost use Rattle.std.specs.BTreeMap.{keys};
 ghost use Rattle.serde_json.specs.Data.{Data};
 ghost use Rattle.serde_json.specs.Find.{get, as_array};
 ghost use Rattle.serde_json.specs.View.{view, items_view, members_view};
-ghost use Rattle.json_forms.specs.Form.{Gives, json_of, object_at, text_field, offsets_at, position_length_at, position_field, first_other, only_fields, only_item, only_item_field, word_field, field_path, index_path};
+ghost use Rattle.json_forms.specs.Form.{Reads, json_of, object_at, text_field, offsets_at, position_length_at, position_field, first_other, only_fields, word_field, field_path, index_path};
 ghost use Rattle.json_forms.specs.OtherFields.{is_other};
 
 use crate::fault::FormFault;
@@ -19,7 +19,7 @@ use std::alloc::Global;
 /// The JSON value of a line: `NotJson` where the line is not UTF-8, has no JSON value or nests deeper than 127.
 #[tactic(auto, using(crate::proofs::Json::json_found, crate::proofs::Json::json_absent))]
 pub fn json_of(alloc: Global, line: &[u8]) -> Result<Value, FormFault>
-    ensures { Gives view result (json_of line.now) }
+    ensures { Reads view result (json_of line.now) }
 {
     match Value::from_slice(alloc, line) {
         Ok(value) => Ok(value),
@@ -65,7 +65,7 @@ pub fn bad_member(path: &FieldPath, name: &str, index: usize) -> FormFault
 /// Tests that a value is an object.
 #[tactic(auto, unfolding(crate::specs::Form::object_at))]
 pub fn object_at(path: &FieldPath, value: &Value) -> Result<(), FormFault>
-    ensures { Gives (λ _. tt) result (object_at path.now (view value.now)) }
+    ensures { Reads (λ _. tt) result (object_at path.now (view value.now)) }
 {
     match value {
         Value::Object(_) => Ok(()),
@@ -76,7 +76,7 @@ pub fn object_at(path: &FieldPath, value: &Value) -> Result<(), FormFault>
 /// A field that is a text.
 #[tactic(auto, unfolding(crate::specs::Form::text_field))]
 pub fn text_field<'a>(path: &FieldPath, name: &str, value: &'a Value) -> Result<&'a str, FormFault>
-    ensures { Gives (λ text. text.now) result (text_field path.now name.now (view value.now)) }
+    ensures { Reads (λ text. text.now) result (text_field path.now name.now (view value.now)) }
 {
     match value.get(name).and_then(Value::as_str) {
         Some(text) => Ok(text),
@@ -87,7 +87,7 @@ pub fn text_field<'a>(path: &FieldPath, name: &str, value: &'a Value) -> Result<
 /// The numbers of a list in a field, from 0 to 4294967295 each.
 #[tactic(auto, using(crate::proofs::Offsets::with_front_more), unfolding(crate::specs::Form::offsets_at))]
 fn offsets_of(path: &FieldPath, name: &str, items: &Vec<Value>) -> Result<Vec<u32>, FormFault>
-    ensures { Gives (λ numbers. numbers.items) result
+    ensures { Reads (λ numbers. numbers.items) result
         (offsets_at (field_path path.now name.now) 0 (items_view items.now.items)) }
 {
     let mut numbers = Vec::with_capacity(*items.allocator(), items.len())?;
@@ -103,7 +103,7 @@ fn offsets_of(path: &FieldPath, name: &str, items: &Vec<Value>) -> Result<Vec<u3
 /// The path of these numbers, which has to be one of a position: 1 to 65 of them.
 #[tactic(auto, unfolding(crate::specs::Form::position_length_at))]
 fn position_of(path: &FieldPath, name: &str, numbers: &Vec<u32>) -> Result<Path, FormFault>
-    ensures { Gives (λ position. position) result
+    ensures { Reads (λ position. position) result
         (position_length_at (field_path path.now name.now) numbers.now.items) }
 {
     if numbers.is_empty() {
@@ -118,7 +118,7 @@ fn position_of(path: &FieldPath, name: &str, numbers: &Vec<u32>) -> Result<Path,
 /// A field that is a position.
 #[tactic(auto, unfolding(crate::specs::Form::position_field))]
 pub fn position_field(path: &FieldPath, name: &str, value: &Value) -> Result<Path, FormFault>
-    ensures { Gives (λ position. position) result (position_field path.now name.now (view value.now)) }
+    ensures { Reads (λ position. position) result (position_field path.now name.now (view value.now)) }
 {
     let Some(items) = value.get(name).and_then(Value::as_array) else {
         return Err(bad_field(path, name));
@@ -145,7 +145,7 @@ fn unnamed_key<'a>(names: &[&str], members: &'a Map<String, Value>) -> Option<&'
 /// Tests that an object has no fields but these.
 #[tactic(auto, unfolding(crate::specs::Form::only_fields))]
 pub fn only_fields(path: &FieldPath, names: &[&str], value: &Value) -> Result<(), FormFault>
-    ensures { Gives (λ _. tt) result (only_fields path.now (map (λ name. name.now) names.now) (view value.now)) }
+    ensures { Reads (λ _. tt) result (only_fields path.now (map (λ name. name.now) names.now) (view value.now)) }
 {
     match value
         .as_object()
@@ -156,41 +156,10 @@ pub fn only_fields(path: &FieldPath, names: &[&str], value: &Value) -> Result<()
     }
 }
 
-/// The one member of a list.
-#[tactic(auto, using(crate::proofs::OnlyItem::only_item_one, crate::proofs::OnlyItem::only_item_other))]
-fn only_item(items: &Vec<Value>) -> Option<&Value>
-    ensures { option_map (λ item. view item.now) result ≡ only_item (items_view items.now.items) }
-{
-    if items.len() == 1 {
-        Some(&items[0])
-    } else {
-        None
-    }
-}
-
-/// A field that is a list of one member, and this member.
-#[tactic(auto, unfolding(crate::specs::Form::only_item_field))]
-pub fn only_item_field<'a>(
-    path: &FieldPath,
-    name: &str,
-    value: &'a Value,
-) -> Result<&'a Value, FormFault>
-    ensures { Gives (λ item. view item.now) result (only_item_field path.now name.now (view value.now)) }
-{
-    match value
-        .get(name)
-        .and_then(Value::as_array)
-        .and_then(only_item)
-    {
-        Some(item) => Ok(item),
-        None => Err(bad_field(path, name)),
-    }
-}
-
 /// Tests that a field is a text of this wording.
 #[tactic(auto, unfolding(crate::specs::Form::word_field))]
 pub fn word_field(path: &FieldPath, name: &str, word: &str, value: &Value) -> Result<(), FormFault>
-    ensures { Gives (λ _. tt) result (word_field path.now name.now word.now (view value.now)) }
+    ensures { Reads (λ _. tt) result (word_field path.now name.now word.now (view value.now)) }
 {
     let text = text_field(path, name, value)?;
     if text == word {

@@ -10,6 +10,7 @@ use Rattle.json_forms.specs.Form.{◌>>=◌, or_bad, field_path, index_path}
 abbrev pub kept_name : List ℕ → Option (List ℕ)
 kept_name text = if is_name text then Some text else None
 
+-- the name that a value is, if it is one
 abbrev pub name_of : Data → Option (List ℕ)
 name_of d = option_and_then kept_name (as_str d)
 
@@ -71,6 +72,7 @@ optional_truth path name d = truth_if (get name d) where
 abbrev pub between : ℕ → ℕ → ℕ → Option ℕ
 between least most count = if nat_le least count && nat_le count most then Some count else None
 
+-- the whole number between two bounds that a value is, if it is one
 abbrev pub count_of : ℕ → ℕ → Data → Option ℕ
 count_of least most d = option_and_then (between least most) (option_and_then as_u64 (as_number d))
 

@@ -3,7 +3,7 @@
 ghost use Rattle.std.specs.Prelude.{◌≡◌, ◌∷◌, [], true, Option, IfOk};
 ghost use Rattle.ck_base.specs.Name.{is_name};
 ghost use Rattle.serde_json.specs.View.{view, items_view};
-ghost use Rattle.json_forms.specs.Form.{Gives, field_path};
+ghost use Rattle.json_forms.specs.Form.{Reads, field_path};
 ghost use Rattle.json_names.specs.Names.{name_at, name_field, names_at, name_list_field, one_or_more, names_field, optional_name};
 
 use ck_base::faults::FieldPath;
@@ -16,7 +16,7 @@ use std::alloc::Global;
 /// A value that is a name.
 #[tactic(auto, unfolding(crate::specs::Names::name_at))]
 pub fn name_at(alloc: Global, path: &FieldPath, value: &Value) -> Result<Name, FormFault>
-    ensures { Gives (λ name. name) result (name_at path.now (view value.now)) }
+    ensures { Reads (λ name. name) result (name_at path.now (view value.now)) }
 {
     let Some(text) = value.as_str() else {
         return Err(bad_value(path));
@@ -36,7 +36,7 @@ pub fn name_field(
     name: &str,
     value: &Value,
 ) -> Result<Name, FormFault>
-    ensures { Gives (λ name. name) result (name_field path.now name.now (view value.now)) }
+    ensures { Reads (λ name. name) result (name_field path.now name.now (view value.now)) }
 {
     let Some(text) = value.get(name).and_then(Value::as_str) else {
         return Err(bad_field(path, name));
@@ -51,7 +51,7 @@ pub fn name_field(
 /// The names of a list.
 #[tactic(auto, using(crate::proofs::Fronts::with_front_more), unfolding(crate::specs::Names::names_at))]
 fn names_at(alloc: Global, path: &FieldPath, items: &Vec<Value>) -> Result<Vec<Name>, FormFault>
-    ensures { Gives (λ names. names.items) result (names_at path.now 0 (items_view items.now.items)) }
+    ensures { Reads (λ names. names.items) result (names_at path.now 0 (items_view items.now.items)) }
 {
     let mut names = Vec::with_capacity(alloc, items.len())?;
     for (index, item) in items.iter().enumerate() {
@@ -69,7 +69,7 @@ pub fn name_list_field(
     name: &str,
     value: &Value,
 ) -> Result<Vec<Name>, FormFault>
-    ensures { Gives (λ names. names.items) result (name_list_field path.now name.now (view value.now)) }
+    ensures { Reads (λ names. names.items) result (name_list_field path.now name.now (view value.now)) }
 {
     let Some(items) = value.get(name).and_then(Value::as_array) else {
         return Err(bad_field(path, name));
@@ -81,7 +81,7 @@ pub fn name_list_field(
 /// A name, or a list of names.
 #[tactic(auto, unfolding(crate::specs::Names::one_or_more))]
 fn one_or_more(alloc: Global, path: &FieldPath, value: &Value) -> Result<Vec<Name>, FormFault>
-    ensures { Gives (λ names. names.items) result (one_or_more path.now (view value.now)) }
+    ensures { Reads (λ names. names.items) result (one_or_more path.now (view value.now)) }
 {
     if let Value::Array(items) = value {
         return names_at(alloc, path, items);
@@ -100,7 +100,7 @@ pub fn names_field(
     name: &str,
     value: &Value,
 ) -> Result<Vec<Name>, FormFault>
-    ensures { Gives (λ names. names.items) result (names_field path.now name.now (view value.now)) }
+    ensures { Reads (λ names. names.items) result (names_field path.now name.now (view value.now)) }
 {
     let Some(found) = value.get(name) else {
         return Ok(Vec::new(alloc));
@@ -117,7 +117,7 @@ pub fn optional_name(
     name: &str,
     value: &Value,
 ) -> Result<Option<Name>, FormFault>
-    ensures { Gives (λ name. name) result (optional_name path.now name.now (view value.now)) }
+    ensures { Reads (λ name. name) result (optional_name path.now name.now (view value.now)) }
 {
     let Some(found) = value.get(name) else {
         return Ok(None);

@@ -2,7 +2,7 @@
 //! breaks the form, or `NoMemory`; a path leads to the value that is read.
 ghost use Rattle.std.specs.Prelude.{◌≡◌, ◌≤◌, IfOk, IfSome};
 ghost use Rattle.serde_json.specs.View.{view};
-ghost use Rattle.json_forms.specs.Form.{Gives};
+ghost use Rattle.json_forms.specs.Form.{Reads};
 ghost use Rattle.json_names.specs.Names.{truth_field, optional_truth, count_field, optional_count};
 
 use ck_base::faults::FieldPath;
@@ -13,7 +13,7 @@ use serde_json::Value;
 /// A field that is a truth value.
 #[tactic(auto, unfolding(crate::specs::Names::truth_field))]
 pub fn truth_field(path: &FieldPath, name: &str, value: &Value) -> Result<bool, FormFault>
-    ensures { Gives (λ truth. truth) result (truth_field path.now name.now (view value.now)) }
+    ensures { Reads (λ truth. truth) result (truth_field path.now name.now (view value.now)) }
 {
     match value.get(name).and_then(Value::as_bool) {
         Some(truth) => Ok(truth),
@@ -28,7 +28,7 @@ pub fn optional_truth(
     name: &str,
     value: &Value,
 ) -> Result<Option<bool>, FormFault>
-    ensures { Gives (λ truth. truth) result (optional_truth path.now name.now (view value.now)) }
+    ensures { Reads (λ truth. truth) result (optional_truth path.now name.now (view value.now)) }
 {
     let Some(found) = value.get(name) else {
         return Ok(None);
@@ -48,7 +48,7 @@ pub fn count_field(
     most: u64,
     value: &Value,
 ) -> Result<u64, FormFault>
-    ensures reads { Gives (λ count. count) result (count_field path.now name.now least most (view value.now)) }
+    ensures reads { Reads (λ count. count) result (count_field path.now name.now least most (view value.now)) }
     ensures bounded { IfOk result (λ count. count ≤ most) }
 {
     match value.get(name).and_then(Value::as_u64) {
@@ -66,7 +66,7 @@ pub fn optional_count(
     most: u64,
     value: &Value,
 ) -> Result<Option<u64>, FormFault>
-    ensures reads { Gives (λ count. count) result (optional_count path.now name.now least most (view value.now)) }
+    ensures reads { Reads (λ count. count) result (optional_count path.now name.now least most (view value.now)) }
     ensures bounded { IfOk result (λ count. IfSome count (λ number. number ≤ most)) }
 {
     let Some(found) = value.get(name) else {

@@ -2,7 +2,7 @@
 ghost use Rattle.std.specs.Prelude.{◌≡◌, option_and_then};
 ghost use Rattle.serde_json.specs.Find.{get, as_array};
 ghost use Rattle.serde_json.specs.View.{view};
-ghost use Rattle.json_forms.specs.Form.{Gives, position_field};
+ghost use Rattle.json_forms.specs.Form.{Reads, position_field};
 ghost use Rattle.json_values.specs.Values.{is_empty_list, path_field};
 
 use ck_base::faults::FieldPath;
@@ -15,13 +15,13 @@ use std::alloc::Global;
 
 /// A field that is a position.
 #[tactic(auto, using(crate::proofs::Positions::position_some))]
-pub fn place_field(
+pub fn model_position_field(
     alloc: Global,
     path: &FieldPath,
     name: &str,
     value: &Value,
 ) -> Result<Position, FormFault>
-    ensures { Gives (λ position. position) result (position_field path.now name.now (view value.now)) }
+    ensures { Reads (λ position. position) result (position_field path.now name.now (view value.now)) }
 {
     let numbers = position_field(path, name, value)?;
     match Position::new(alloc, numbers) {
@@ -38,7 +38,7 @@ pub fn path_field(
     name: &str,
     value: &Value,
 ) -> Result<Path, FormFault>
-    ensures { Gives (λ path. path) result (path_field path.now name.now (view value.now)) }
+    ensures { Reads (λ path. path) result (path_field path.now name.now (view value.now)) }
 {
     if is_empty_list(name, value) {
         return Ok(Path::new(alloc));

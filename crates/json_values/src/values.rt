@@ -2,7 +2,7 @@
 //! or `NoMemory`; a path leads to the value that is read.
 ghost use Rattle.std.specs.Prelude.{◌≡◌, [], IfOk};
 ghost use Rattle.serde_json.specs.View.{view, members_view};
-ghost use Rattle.json_forms.specs.Form.{Gives, or_bad};
+ghost use Rattle.json_forms.specs.Form.{Reads, or_bad};
 ghost use Rattle.json_values.specs.Values.{kept_text, value_at, value_field, nullable_at, nullable_field, attribute_at, attributes_from, attributes_field};
 
 use ck_base::attributes::Attrs;
@@ -18,7 +18,7 @@ use std::alloc::Global;
 /// A value at this place: a truth value, a text of at most 4,096 bytes, or a whole number of 64 bits.
 #[tactic(auto, unfolding(crate::specs::Values::value_at))]
 pub fn value_at(alloc: Global, path: &FieldPath, value: &Value) -> Result<AttributeValue, FormFault>
-    ensures { Gives (λ value. value) result (value_at path.now (view value.now)) }
+    ensures { Reads (λ value. value) result (value_at path.now (view value.now)) }
 {
     match value {
         Value::Bool(truth) => Ok(AttributeValue::Truth(*truth)),
@@ -33,7 +33,7 @@ pub fn value_at(alloc: Global, path: &FieldPath, value: &Value) -> Result<Attrib
 
 /// A text within the limit on attribute texts.
 fn text_value(alloc: Global, path: &FieldPath, text: &str) -> Result<AttributeValue, FormFault>
-    ensures { Gives (λ value. value) result (or_bad path.now (kept_text text.now)) }
+    ensures { Reads (λ value. value) result (or_bad path.now (kept_text text.now)) }
 {
     match TextVal::read(alloc, text) {
         Ok(text) => Ok(AttributeValue::Text(text)),
@@ -50,7 +50,7 @@ pub fn value_field(
     name: &str,
     value: &Value,
 ) -> Result<AttributeValue, FormFault>
-    ensures { Gives (λ value. value) result (value_field path.now name.now (view value.now)) }
+    ensures { Reads (λ value. value) result (value_field path.now name.now (view value.now)) }
 {
     let Some(found) = value.get(name) else {
         return Err(bad_field(path, name));
@@ -66,7 +66,7 @@ fn nullable_at(
     path: &FieldPath,
     value: &Value,
 ) -> Result<Option<AttributeValue>, FormFault>
-    ensures { Gives (λ value. value) result (nullable_at path.now (view value.now)) }
+    ensures { Reads (λ value. value) result (nullable_at path.now (view value.now)) }
 {
     if value.is_null() {
         return Ok(None);
@@ -83,7 +83,7 @@ pub fn nullable_field(
     name: &str,
     value: &Value,
 ) -> Result<Option<AttributeValue>, FormFault>
-    ensures { Gives (λ value. value) result (nullable_field path.now name.now (view value.now)) }
+    ensures { Reads (λ value. value) result (nullable_field path.now name.now (view value.now)) }
 {
     let Some(found) = value.get(name) else {
         return Err(bad_field(path, name));
@@ -100,7 +100,7 @@ fn attribute_at(
     key: &str,
     value: &Value,
 ) -> Result<(Name, AttributeValue), FormFault>
-    ensures reads { Gives (λ both. both.1) result (attribute_at path.now key.now (view value.now)) }
+    ensures reads { Reads (λ both. both.1) result (attribute_at path.now key.now (view value.now)) }
     ensures key { IfOk result (λ both. both.0 ≡ key.now) }
 {
     let name = match Name::read(alloc, key) {
@@ -120,7 +120,7 @@ fn attributes_of(
     path: &FieldPath,
     members: &Map<String, Value>,
 ) -> Result<Attrs, FormFault>
-    ensures { Gives (λ attrs. attrs) result (attributes_from path.now [] (members_view members.now.entries)) }
+    ensures { Reads (λ attrs. attrs) result (attributes_from path.now [] (members_view members.now.entries)) }
 {
     let mut attrs = Attrs::new(alloc);
     for (key, value) in members {
@@ -138,7 +138,7 @@ pub fn attributes_field(
     name: &str,
     value: &Value,
 ) -> Result<Attrs, FormFault>
-    ensures { Gives (λ attrs. attrs) result (attributes_field path.now name.now (view value.now)) }
+    ensures { Reads (λ attrs. attrs) result (attributes_field path.now name.now (view value.now)) }
 {
     let Some(found) = value.get(name) else {
         return Ok(Attrs::new(alloc));

@@ -22,6 +22,7 @@ printed_scalar scalar = if scalar == 38 then codes "&amp;"
     else (if scalar == 62 then codes "&gt;"
     else (if is_by_number scalar then by_number scalar else encode_utf8 scalar)))
 
+-- a text, each of its Unicode scalar values as it is printed
 abbrev pub printed_text : List ℕ → List ℕ
 printed_text scalars = flat_map printed_scalar scalars
 
@@ -29,6 +30,7 @@ printed_text scalars = flat_map printed_scalar scalars
 unfoldable pub quoted_scalar : ℕ → List ℕ
 quoted_scalar scalar = if scalar == 34 then codes "&quot;" else printed_scalar scalar
 
+-- a text as it is printed in quotes
 abbrev pub quoted_text : List ℕ → List ℕ
 quoted_text scalars = flat_map quoted_scalar scalars
 

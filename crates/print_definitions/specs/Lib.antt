@@ -4,3 +4,4 @@ pub mod ModelText
 pub mod ViewText
 pub mod Sample
 pub mod SelectionText
+pub mod Runs

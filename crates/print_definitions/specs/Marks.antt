@@ -18,6 +18,7 @@ abbrev pub behind : ℕ → List ℕ → List ℕ
 behind index [] = []
 behind index (first ∷ rest) = if first == index then rest else []
 
+-- the same of both places
 abbrev pub inside : ℕ → Ends → Ends
 inside index ends = record { start = behind index ends.start; end = behind index ends.end }
 

@@ -25,11 +25,12 @@ abbrev pub goes_on : Option Attributes → Attributes → Bool
 goes_on None attributes = false
 goes_on (Some before) attributes = same_attributes before attributes
 
--- what stands before a run and behind the run before, if there is one
+-- what opens a run: nothing where it has no attributes
 abbrev pub run_start : Attributes → List ℕ
 run_start [] = []
 run_start (entry ∷ attributes) = open_tag (codes "$text") (attributes_text (entry ∷ attributes))
 
+-- what closes the run before, if there is one
 abbrev pub run_end : Option Attributes → List ℕ
 run_end None = []
 run_end (Some []) = []

@@ -14,6 +14,7 @@ unfoldable pub marker_line : ℕ → List ℕ → Range → List ℕ
 marker_line number name range =
     decimal number ++ (codes " marker " ++ (name ++ (codes " " ++ (printed_path range.start ++ (codes " " ++ (printed_path range.end ++ codes "\n"))))))
 
+-- the lines of markers, in the order of their names
 abbrev pub marker_lines : ℕ → Markers → List ℕ
 marker_lines number markers = flat_map (λ marker. marker_line number marker.0 marker.1) markers
 

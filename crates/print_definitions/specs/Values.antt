@@ -26,5 +26,6 @@ attributes_text attributes = flat_map (λ entry. codes " " ++ (entry.0 ++ (codes
 abbrev pub open_tag : List ℕ → List ℕ → List ℕ
 open_tag name attributes = codes "<" ++ (name ++ (attributes ++ codes ">"))
 
+-- the tag that closes an element
 abbrev pub close_tag : List ℕ → List ℕ
 close_tag name = codes "</" ++ (name ++ codes ">")

@@ -15,6 +15,7 @@ abbrev pub scalars_text : Ends → List ℕ → List ℕ
 scalars_text ends scalars = marked (inner_marks ends) 0 scalars ++ inner_marks ends (length scalars)
 
 abbrev mutual
+  -- a text, or an element as its tags with its children between them
   pub node_text : Ends → ViewNode → List ℕ
   node_text ends (text scalars) = scalars_text ends scalars
   node_text ends (element head children) = open_tag head.name (view_attributes_text head.attributes) ++ (inner_nodes_text ends 0 children ++ close_tag head.name)

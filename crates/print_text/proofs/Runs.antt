@@ -1,11 +1,7 @@
 -- The printed text of a node in front of that of other items.
-use Rattle.std.proofs.Common.{◌≡◌, ℕ, zero, suc, ◌+◌, ◌≤◌, ◌^◌, List, [], ◌∷◌, ◌++◌, map, length, drop, Bool, true, false, nat_eq, ◌&&◌, Option, Some, None, refl, sym, ap, ◌∙◌, append_assoc, arith}
-use Rattle.std.specs.Cmp.Lexicographic.{pointwise}
-use Rattle.operation_definitions.specs.After.{same_value}
+use Rattle.std.proofs.Common.{◌≡◌, ℕ, zero, suc, ◌+◌, ◌≤◌, ◌^◌, List, [], ◌∷◌, ◌++◌, map, length, drop, Bool, true, false, Option, Some, None, refl, sym, ap, ◌∙◌, append_assoc, arith}
 use Rattle.std.specs.Prelude.{IsTrue, ◌↔◌, ◌<◌}
-use Rattle.ck_base.specs.declared.value.Value.{Value as AttributeValue}
-use Rattle.operation_definitions.proofs.Values.{same_value-own, same_value-true}
-use Rattle.operation_definitions.proofs.Names.{numbers_same, same_numbers}
+use Rattle.print_definitions.proofs.Runs.{own_attributes, equal_attributes, going, length_run}
 use Rattle.item_definitions.specs.Item.{Item, Attributes, character, items_of, depth_of, count_of}
 use Rattle.model_tree.specs.declared.items.Node.{Node}
 use Rattle.model_tree.specs.declared.items.Node.TheVariants.{Run, Element}
@@ -16,32 +12,6 @@ use Rattle.print_definitions.specs.Marks.{Ends, inside, outer_marks, marked}
 use Rattle.print_definitions.specs.Values.{attributes_text, open_tag, close_tag}
 use Rattle.print_definitions.specs.ModelText.{same_attributes, goes_on, before_character, run_of, run_end, item_text, inner_items_text, items_text}
 use Rattle.print_text.specs.Runs.{open_behind, run_behind, run_text, node_text}
-
-both : (a b c : Bool) → a ≡ true → b ≡ true → c ≡ true → (a && b && c) ≡ true
-both a b c p q r = λ i. p i && q i && r i
-
-own_attributes : (attributes : Attributes) → same_attributes attributes attributes ≡ true
-own_attributes [] = refl
-own_attributes (entry ∷ attributes) = both _ _ _ (numbers_same entry.0 entry.0 refl) (same_value-own (Some entry.1)) (own_attributes attributes)
-
-parts : (a b c : Bool) → (a && b && c) ≡ true → (a ≡ true) × (b ≡ true) × (c ≡ true)
-parts true true true e = (refl, refl, refl)
-parts true true false e = absurd cc
-parts true false c e = absurd cc
-parts false b c e = absurd cc
-
-value_in : AttributeValue → Option AttributeValue → AttributeValue
-value_in other None = other
-value_in other (Some value) = value
-
-equal_attributes : (attributes others : Attributes) → same_attributes attributes others ≡ true → attributes ≡ others
-unfolding value_in
-equal_attributes [] [] e = refl
-equal_attributes [] (entry ∷ others) e = absurd cc
-equal_attributes (entry ∷ attributes) [] e = absurd cc
-equal_attributes (entry ∷ attributes) (other ∷ others) e =
-    let p = parts (pointwise nat_eq entry.0 other.0) (same_value (Some entry.1) (Some other.1)) (same_attributes attributes others) e in
-    λ i. (same_numbers entry.0 other.0 p.0 i, ap (value_in entry.1) (same_value-true (Some entry.1) (Some other.1) p.1) i) ∷ equal_attributes attributes others p.2 i
 
 apart : (test : Bool) → test ≡ false → IsTrue test → ⊥
 apart test e h = cc
@@ -60,18 +30,6 @@ inner_is : (ends : Ends) (offset : ℕ) (before : Option Attributes) (items : Li
 inner_is ends offset before [] = refl
 inner_is ends offset before (item ∷ items) = ap (λ t. item_text ends offset before item ++ t) (inner_is ends (offset + 1) (run_of item) items)
 
--- characters that go on a run
-going : (ends : Ends) (offset : ℕ) (attributes : Attributes) (scalars : List ℕ) (rest : List Item)
-    → items_text ends offset (Some attributes) (map (λ scalar. character scalar attributes) scalars ++ rest) ≡ marked (outer_marks ends) offset scalars ++ items_text ends (offset + length scalars) (Some attributes) rest
-going ends offset attributes [] rest = ap (λ at. items_text ends at (Some attributes) rest) (omega arith)
-going ends offset attributes (scalar ∷ scalars) rest =
-    ap (λ test. (before_character test (Some attributes) attributes (outer_marks ends offset) ++ printed_scalar scalar) ++ items_text ends (offset + 1) (Some attributes) (map (λ scalar. character scalar attributes) scalars ++ rest)) (own_attributes attributes)
-    ∙ ap (λ t. (outer_marks ends offset ++ printed_scalar scalar) ++ t) (going ends (offset + 1) attributes scalars rest)
-    ∙ ap (λ at. (outer_marks ends offset ++ printed_scalar scalar) ++ (marked (outer_marks ends) (offset + 1) scalars ++ items_text ends at (Some attributes) rest)) (omega arith)
-    ∙ append_assoc (outer_marks ends offset) (printed_scalar scalar) _
-    ∙ ap (λ t. outer_marks ends offset ++ t) (sym (append_assoc (printed_scalar scalar) (marked (outer_marks ends) (offset + 1) scalars) _))
-    ∙ sym (append_assoc (outer_marks ends offset) (printed_scalar scalar ++ marked (outer_marks ends) (offset + 1) scalars) _)
-
 run_placed : (ends : Ends) (offset : ℕ) (before : Option Attributes) (attributes : Attributes) (scalars : List ℕ) (rest : List Item)
     → items_text ends offset before (map (λ scalar. character scalar attributes) scalars ++ rest) ≡ run_text ends offset before attributes scalars ++ items_text ends (offset + length scalars) (open_behind before attributes scalars) rest
 run_placed ends offset before attributes [] rest = ap (λ at. items_text ends at before rest) (omega arith)
@@ -82,10 +40,6 @@ run_placed ends offset before attributes (scalar ∷ scalars) rest =
     ∙ append_assoc start (printed_scalar scalar) _
     ∙ ap (λ t. start ++ t) (sym (append_assoc (printed_scalar scalar) (marked (outer_marks ends) (offset + 1) scalars) _))
     ∙ sym (append_assoc start (printed_scalar scalar ++ marked (outer_marks ends) (offset + 1) scalars) _)
-
-length_run : (attributes : Attributes) (scalars : List ℕ) → length (map (λ scalar. character scalar attributes) scalars) ≡ length scalars
-length_run attributes [] = refl
-length_run attributes (scalar ∷ scalars) = ap suc (length_run attributes scalars)
 
 -- a node in front of other items
 pub node_placed : (ends : Ends) (offset : ℕ) (before : Option Attributes) (node : Node) (rest : List Item)

@@ -29,6 +29,7 @@ abbrev pub element_text : Ends → ℕ → Option Attributes → List ℕ → At
 element_text ends offset before name attributes children =
     run_end before ++ (outer_marks ends offset ++ (open_tag name (attributes_text attributes) ++ (items_text (inside offset ends) 0 None children ++ close_tag name)))
 
+-- a node: a run, or an element
 abbrev pub node_text : Ends → ℕ → Option Attributes → Node → List ℕ
 node_text ends offset before (Run text) = run_text ends offset before text.attributes text.scalars
 node_text ends offset before (Element head children) = element_text ends offset before head.name head.attributes children

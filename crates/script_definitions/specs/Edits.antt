@@ -23,6 +23,7 @@ use Rattle.edit_definitions.specs.declared.edit.Edit.TheVariants.{InsertText, In
 use Rattle.edit_definitions.specs.declared.edit.Target.{Target}
 use Rattle.edit_definitions.specs.declared.edit.Target.TheVariants.{Range as InRange, Element as OfElement}
 
+-- a text with attributes that comes in at a position (`Writer.insertText` of CKEditor 5)
 unfoldable pub insert_text_at : List ℕ → Data → Result Edit FormFault
 insert_text_at path d = do
   at ← position_field path (codes "at") d
@@ -31,6 +32,7 @@ insert_text_at path d = do
   _ ← only_fields path (codes "edit" ∷ codes "at" ∷ codes "text" ∷ codes "attributes" ∷ []) d
   Ok (InsertText at (chars text) attributes)
 
+-- an empty element that comes in at a position (`Writer.insertElement`)
 unfoldable pub insert_element_at : List ℕ → Data → Result Edit FormFault
 insert_element_at path d = do
   at ← position_field path (codes "at") d
@@ -39,6 +41,7 @@ insert_element_at path d = do
   _ ← only_fields path (codes "edit" ∷ codes "at" ∷ codes "name" ∷ codes "attributes" ∷ []) d
   Ok (InsertElement at name attributes)
 
+-- a range whose items go (`Writer.remove`)
 unfoldable pub remove_at : List ℕ → Data → Result Edit FormFault
 remove_at path d = do
   start ← position_field path (codes "start") d
@@ -46,6 +49,7 @@ remove_at path d = do
   _ ← only_fields path (codes "edit" ∷ codes "start" ∷ codes "end" ∷ []) d
   Ok (Remove start end)
 
+-- a range whose items go to a position (`Writer.move`)
 unfoldable pub move_at : List ℕ → Data → Result Edit FormFault
 move_at path d = do
   start ← position_field path (codes "start") d
@@ -70,6 +74,7 @@ element_target_at path d = if is_some (get (codes "start") d) || is_some (get (c
 unfoldable pub target_at : List ℕ → Data → Result Target FormFault
 target_at path d = if is_some (get (codes "path") d) then element_target_at path d else range_target_at path d
 
+-- items that get a value of a key (`Writer.setAttribute`)
 unfoldable pub set_attribute_at : List ℕ → Data → Result Edit FormFault
 set_attribute_at path d = do
   target ← target_at path d
@@ -78,6 +83,7 @@ set_attribute_at path d = do
   _ ← only_fields path (codes "edit" ∷ codes "start" ∷ codes "end" ∷ codes "path" ∷ codes "key" ∷ codes "value" ∷ []) d
   Ok (SetAttribute target key value)
 
+-- items that lose the value of a key (`Writer.removeAttribute`)
 unfoldable pub remove_attribute_at : List ℕ → Data → Result Edit FormFault
 remove_attribute_at path d = do
   target ← target_at path d
@@ -85,6 +91,7 @@ remove_attribute_at path d = do
   _ ← only_fields path (codes "edit" ∷ codes "start" ∷ codes "end" ∷ codes "path" ∷ codes "key" ∷ []) d
   Ok (RemoveAttribute target key)
 
+-- an element that gets another name (`Writer.rename`)
 unfoldable pub rename_at : List ℕ → Data → Result Edit FormFault
 rename_at path d = do
   element ← path_field path (codes "path") d
@@ -92,18 +99,21 @@ rename_at path d = do
   _ ← only_fields path (codes "edit" ∷ codes "path" ∷ codes "name" ∷ []) d
   Ok (Rename element name)
 
+-- an element that is split at a position in it (`Writer.split`)
 unfoldable pub split_at : List ℕ → Data → Result Edit FormFault
 split_at path d = do
   at ← position_field path (codes "at") d
   _ ← only_fields path (codes "edit" ∷ codes "at" ∷ []) d
   Ok (Split at)
 
+-- two elements that are merged at the position between them (`Writer.merge`)
 unfoldable pub merge_at : List ℕ → Data → Result Edit FormFault
 merge_at path d = do
   at ← position_field path (codes "at") d
   _ ← only_fields path (codes "edit" ∷ codes "at" ∷ []) d
   Ok (Merge at)
 
+-- a range whose items go into a new element (`Writer.wrap`)
 unfoldable pub wrap_at : List ℕ → Data → Result Edit FormFault
 wrap_at path d = do
   start ← position_field path (codes "start") d
@@ -113,12 +123,14 @@ wrap_at path d = do
   _ ← only_fields path (codes "edit" ∷ codes "start" ∷ codes "end" ∷ codes "name" ∷ codes "attributes" ∷ []) d
   Ok (Wrap start end name attributes)
 
+-- an element in whose place its items go (`Writer.unwrap`)
 unfoldable pub unwrap_at : List ℕ → Data → Result Edit FormFault
 unwrap_at path d = do
   element ← path_field path (codes "path") d
   _ ← only_fields path (codes "edit" ∷ codes "path" ∷ []) d
   Ok (Unwrap element)
 
+-- a new marker with its range (`Writer.addMarker`)
 unfoldable pub add_marker_at : List ℕ → Data → Result Edit FormFault
 add_marker_at path d = do
   name ← name_field path (codes "name") d
@@ -127,6 +139,7 @@ add_marker_at path d = do
   _ ← only_fields path (codes "edit" ∷ codes "name" ∷ codes "start" ∷ codes "end" ∷ []) d
   Ok (AddMarker name start end)
 
+-- a marker that gets another range (`Writer.updateMarker`)
 unfoldable pub update_marker_at : List ℕ → Data → Result Edit FormFault
 update_marker_at path d = do
   name ← name_field path (codes "name") d
@@ -135,6 +148,7 @@ update_marker_at path d = do
   _ ← only_fields path (codes "edit" ∷ codes "name" ∷ codes "start" ∷ codes "end" ∷ []) d
   Ok (UpdateMarker name start end)
 
+-- a marker that goes (`Writer.removeMarker`)
 unfoldable pub remove_marker_at : List ℕ → Data → Result Edit FormFault
 remove_marker_at path d = do
   name ← name_field path (codes "name") d
@@ -145,6 +159,7 @@ remove_marker_at path d = do
 unfoldable pub end_or : List ℕ → List ℕ → Data → Result (List ℕ) FormFault
 end_or path start d = if is_some (get (codes "end") d) then position_field path (codes "end") d else Ok start
 
+-- a selection by its start, its end and its direction (`Writer.setSelection`)
 unfoldable pub select_at : List ℕ → Data → Result Edit FormFault
 select_at path d = do
   start ← position_field path (codes "start") d
@@ -153,6 +168,7 @@ select_at path d = do
   _ ← only_fields path (codes "edit" ∷ codes "start" ∷ codes "end" ∷ codes "backward" ∷ []) d
   Ok (Select start end (unwrap_or backward false))
 
+-- a value that the selection overrides a key with, or none (`Writer.setSelectionAttribute`, `removeSelectionAttribute`)
 unfoldable pub selection_attribute_at : List ℕ → Data → Result Edit FormFault
 selection_attribute_at path d = do
   key ← name_field path (codes "key") d

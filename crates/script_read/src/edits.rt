@@ -2,7 +2,7 @@
 //! `NoMemory`; a path leads to the edit.
 ghost use Rattle.std.specs.Prelude.{◌≡◌, false, unwrap_or};
 ghost use Rattle.serde_json.specs.View.{view};
-ghost use Rattle.json_forms.specs.Form.{Gives};
+ghost use Rattle.json_forms.specs.Form.{Reads};
 ghost use Rattle.script_definitions.specs.Edits.{insert_text_at, insert_element_at, remove_at, move_at, range_target_at, element_target_at, target_at, set_attribute_at, remove_attribute_at, rename_at, split_at, merge_at, wrap_at, unwrap_at, add_marker_at, update_marker_at, remove_marker_at, end_or, select_at, selection_attribute_at, beside_edit_of, element_edit_of, edit_of, edit_at};
 
 use ck_base::faults::FieldPath;
@@ -12,7 +12,7 @@ use json_forms::fault::FormFault;
 use json_forms::forms::{bad_field, object_at, only_fields, text_field};
 use json_names::names::name_field;
 use json_names::values::optional_truth;
-use json_values::places::{path_field, place_field};
+use json_values::places::{model_position_field, path_field};
 use json_values::values::{attributes_field, nullable_field, value_field};
 use model_pos::Position;
 use serde_json::Value;
@@ -21,9 +21,9 @@ use std::alloc::Global;
 /// An edit that inserts a text.
 #[tactic(auto, unfolding(script_definitions::specs::Edits::insert_text_at))]
 fn insert_text_at(alloc: Global, path: &FieldPath, value: &Value) -> Result<Edit, FormFault>
-    ensures { Gives (λ edit. edit) result (insert_text_at path.now (view value.now)) }
+    ensures { Reads (λ edit. edit) result (insert_text_at path.now (view value.now)) }
 {
-    let at = place_field(alloc, path, "at", value)?;
+    let at = model_position_field(alloc, path, "at", value)?;
     let text = text_field(path, "text", value)?;
     let attributes = attributes_field(alloc, path, "attributes", value)?;
     only_fields(path, &["edit", "at", "text", "attributes"], value)?;
@@ -38,9 +38,9 @@ fn insert_text_at(alloc: Global, path: &FieldPath, value: &Value) -> Result<Edit
 /// An edit that inserts an element.
 #[tactic(auto, unfolding(script_definitions::specs::Edits::insert_element_at))]
 fn insert_element_at(alloc: Global, path: &FieldPath, value: &Value) -> Result<Edit, FormFault>
-    ensures { Gives (λ edit. edit) result (insert_element_at path.now (view value.now)) }
+    ensures { Reads (λ edit. edit) result (insert_element_at path.now (view value.now)) }
 {
-    let at = place_field(alloc, path, "at", value)?;
+    let at = model_position_field(alloc, path, "at", value)?;
     let name = name_field(alloc, path, "name", value)?;
     let attributes = attributes_field(alloc, path, "attributes", value)?;
     only_fields(path, &["edit", "at", "name", "attributes"], value)?;
@@ -54,10 +54,10 @@ fn insert_element_at(alloc: Global, path: &FieldPath, value: &Value) -> Result<E
 /// An edit that removes the items of a range.
 #[tactic(auto, unfolding(script_definitions::specs::Edits::remove_at))]
 fn remove_at(alloc: Global, path: &FieldPath, value: &Value) -> Result<Edit, FormFault>
-    ensures { Gives (λ edit. edit) result (remove_at path.now (view value.now)) }
+    ensures { Reads (λ edit. edit) result (remove_at path.now (view value.now)) }
 {
-    let start = place_field(alloc, path, "start", value)?;
-    let end = place_field(alloc, path, "end", value)?;
+    let start = model_position_field(alloc, path, "start", value)?;
+    let end = model_position_field(alloc, path, "end", value)?;
     only_fields(path, &["edit", "start", "end"], value)?;
     Ok(Edit::Remove { start, end })
 }
@@ -65,11 +65,11 @@ fn remove_at(alloc: Global, path: &FieldPath, value: &Value) -> Result<Edit, For
 /// An edit that moves the items of a range.
 #[tactic(auto, unfolding(script_definitions::specs::Edits::move_at))]
 fn move_at(alloc: Global, path: &FieldPath, value: &Value) -> Result<Edit, FormFault>
-    ensures { Gives (λ edit. edit) result (move_at path.now (view value.now)) }
+    ensures { Reads (λ edit. edit) result (move_at path.now (view value.now)) }
 {
-    let start = place_field(alloc, path, "start", value)?;
-    let end = place_field(alloc, path, "end", value)?;
-    let to = place_field(alloc, path, "to", value)?;
+    let start = model_position_field(alloc, path, "start", value)?;
+    let end = model_position_field(alloc, path, "end", value)?;
+    let to = model_position_field(alloc, path, "to", value)?;
     only_fields(path, &["edit", "start", "end", "to"], value)?;
     Ok(Edit::Move { start, end, to })
 }
@@ -77,17 +77,17 @@ fn move_at(alloc: Global, path: &FieldPath, value: &Value) -> Result<Edit, FormF
 /// The ends of a range.
 #[tactic(auto, unfolding(script_definitions::specs::Edits::range_target_at))]
 fn range_target_at(alloc: Global, path: &FieldPath, value: &Value) -> Result<Target, FormFault>
-    ensures { Gives (λ target. target) result (range_target_at path.now (view value.now)) }
+    ensures { Reads (λ target. target) result (range_target_at path.now (view value.now)) }
 {
-    let start = place_field(alloc, path, "start", value)?;
-    let end = place_field(alloc, path, "end", value)?;
+    let start = model_position_field(alloc, path, "start", value)?;
+    let end = model_position_field(alloc, path, "end", value)?;
     Ok(Target::Range { start, end })
 }
 
 /// The path of an element, beside which no end of a range may stand.
 #[tactic(auto, unfolding(script_definitions::specs::Edits::element_target_at))]
 fn element_target_at(alloc: Global, path: &FieldPath, value: &Value) -> Result<Target, FormFault>
-    ensures { Gives (λ target. target) result (element_target_at path.now (view value.now)) }
+    ensures { Reads (λ target. target) result (element_target_at path.now (view value.now)) }
 {
     if value.get("start").is_some() || value.get("end").is_some() {
         return Err(bad_field(path, "path"));
@@ -99,7 +99,7 @@ fn element_target_at(alloc: Global, path: &FieldPath, value: &Value) -> Result<T
 /// An element by its path where that is there, else a range by its ends.
 #[tactic(auto, unfolding(script_definitions::specs::Edits::target_at))]
 fn target_at(alloc: Global, path: &FieldPath, value: &Value) -> Result<Target, FormFault>
-    ensures { Gives (λ target. target) result (target_at path.now (view value.now)) }
+    ensures { Reads (λ target. target) result (target_at path.now (view value.now)) }
 {
     if value.get("path").is_some() {
         return element_target_at(alloc, path, value);
@@ -110,7 +110,7 @@ fn target_at(alloc: Global, path: &FieldPath, value: &Value) -> Result<Target, F
 /// An edit that gives items a value of a key.
 #[tactic(auto, unfolding(script_definitions::specs::Edits::set_attribute_at))]
 fn set_attribute_at(alloc: Global, path: &FieldPath, value: &Value) -> Result<Edit, FormFault>
-    ensures { Gives (λ edit. edit) result (set_attribute_at path.now (view value.now)) }
+    ensures { Reads (λ edit. edit) result (set_attribute_at path.now (view value.now)) }
 {
     let target = target_at(alloc, path, value)?;
     let key = name_field(alloc, path, "key", value)?;
@@ -130,7 +130,7 @@ fn set_attribute_at(alloc: Global, path: &FieldPath, value: &Value) -> Result<Ed
 /// An edit that takes a value of a key away from items.
 #[tactic(auto, unfolding(script_definitions::specs::Edits::remove_attribute_at))]
 fn remove_attribute_at(alloc: Global, path: &FieldPath, value: &Value) -> Result<Edit, FormFault>
-    ensures { Gives (λ edit. edit) result (remove_attribute_at path.now (view value.now)) }
+    ensures { Reads (λ edit. edit) result (remove_attribute_at path.now (view value.now)) }
 {
     let target = target_at(alloc, path, value)?;
     let key = name_field(alloc, path, "key", value)?;
@@ -141,7 +141,7 @@ fn remove_attribute_at(alloc: Global, path: &FieldPath, value: &Value) -> Result
 /// An edit that gives an element another name.
 #[tactic(auto, unfolding(script_definitions::specs::Edits::rename_at))]
 fn rename_at(alloc: Global, path: &FieldPath, value: &Value) -> Result<Edit, FormFault>
-    ensures { Gives (λ edit. edit) result (rename_at path.now (view value.now)) }
+    ensures { Reads (λ edit. edit) result (rename_at path.now (view value.now)) }
 {
     let element = path_field(alloc, path, "path", value)?;
     let name = name_field(alloc, path, "name", value)?;
@@ -155,9 +155,9 @@ fn rename_at(alloc: Global, path: &FieldPath, value: &Value) -> Result<Edit, For
 /// An edit that splits an element.
 #[tactic(auto, unfolding(script_definitions::specs::Edits::split_at))]
 fn split_at(alloc: Global, path: &FieldPath, value: &Value) -> Result<Edit, FormFault>
-    ensures { Gives (λ edit. edit) result (split_at path.now (view value.now)) }
+    ensures { Reads (λ edit. edit) result (split_at path.now (view value.now)) }
 {
-    let at = place_field(alloc, path, "at", value)?;
+    let at = model_position_field(alloc, path, "at", value)?;
     only_fields(path, &["edit", "at"], value)?;
     Ok(Edit::Split { at })
 }
@@ -165,9 +165,9 @@ fn split_at(alloc: Global, path: &FieldPath, value: &Value) -> Result<Edit, Form
 /// An edit that merges an element into the one before it.
 #[tactic(auto, unfolding(script_definitions::specs::Edits::merge_at))]
 fn merge_at(alloc: Global, path: &FieldPath, value: &Value) -> Result<Edit, FormFault>
-    ensures { Gives (λ edit. edit) result (merge_at path.now (view value.now)) }
+    ensures { Reads (λ edit. edit) result (merge_at path.now (view value.now)) }
 {
-    let at = place_field(alloc, path, "at", value)?;
+    let at = model_position_field(alloc, path, "at", value)?;
     only_fields(path, &["edit", "at"], value)?;
     Ok(Edit::Merge { at })
 }
@@ -175,10 +175,10 @@ fn merge_at(alloc: Global, path: &FieldPath, value: &Value) -> Result<Edit, Form
 /// An edit that puts the items of a range into a new element.
 #[tactic(auto, unfolding(script_definitions::specs::Edits::wrap_at))]
 fn wrap_at(alloc: Global, path: &FieldPath, value: &Value) -> Result<Edit, FormFault>
-    ensures { Gives (λ edit. edit) result (wrap_at path.now (view value.now)) }
+    ensures { Reads (λ edit. edit) result (wrap_at path.now (view value.now)) }
 {
-    let start = place_field(alloc, path, "start", value)?;
-    let end = place_field(alloc, path, "end", value)?;
+    let start = model_position_field(alloc, path, "start", value)?;
+    let end = model_position_field(alloc, path, "end", value)?;
     let name = name_field(alloc, path, "name", value)?;
     let attributes = attributes_field(alloc, path, "attributes", value)?;
     only_fields(path, &["edit", "start", "end", "name", "attributes"], value)?;
@@ -193,7 +193,7 @@ fn wrap_at(alloc: Global, path: &FieldPath, value: &Value) -> Result<Edit, FormF
 /// An edit that puts the items of an element in its place.
 #[tactic(auto, unfolding(script_definitions::specs::Edits::unwrap_at))]
 fn unwrap_at(alloc: Global, path: &FieldPath, value: &Value) -> Result<Edit, FormFault>
-    ensures { Gives (λ edit. edit) result (unwrap_at path.now (view value.now)) }
+    ensures { Reads (λ edit. edit) result (unwrap_at path.now (view value.now)) }
 {
     let element = path_field(alloc, path, "path", value)?;
     only_fields(path, &["edit", "path"], value)?;
@@ -203,11 +203,11 @@ fn unwrap_at(alloc: Global, path: &FieldPath, value: &Value) -> Result<Edit, For
 /// An edit that adds a marker.
 #[tactic(auto, unfolding(script_definitions::specs::Edits::add_marker_at))]
 fn add_marker_at(alloc: Global, path: &FieldPath, value: &Value) -> Result<Edit, FormFault>
-    ensures { Gives (λ edit. edit) result (add_marker_at path.now (view value.now)) }
+    ensures { Reads (λ edit. edit) result (add_marker_at path.now (view value.now)) }
 {
     let name = name_field(alloc, path, "name", value)?;
-    let start = place_field(alloc, path, "start", value)?;
-    let end = place_field(alloc, path, "end", value)?;
+    let start = model_position_field(alloc, path, "start", value)?;
+    let end = model_position_field(alloc, path, "end", value)?;
     only_fields(path, &["edit", "name", "start", "end"], value)?;
     Ok(Edit::AddMarker { name, start, end })
 }
@@ -215,11 +215,11 @@ fn add_marker_at(alloc: Global, path: &FieldPath, value: &Value) -> Result<Edit,
 /// An edit that gives a marker another range.
 #[tactic(auto, unfolding(script_definitions::specs::Edits::update_marker_at))]
 fn update_marker_at(alloc: Global, path: &FieldPath, value: &Value) -> Result<Edit, FormFault>
-    ensures { Gives (λ edit. edit) result (update_marker_at path.now (view value.now)) }
+    ensures { Reads (λ edit. edit) result (update_marker_at path.now (view value.now)) }
 {
     let name = name_field(alloc, path, "name", value)?;
-    let start = place_field(alloc, path, "start", value)?;
-    let end = place_field(alloc, path, "end", value)?;
+    let start = model_position_field(alloc, path, "start", value)?;
+    let end = model_position_field(alloc, path, "end", value)?;
     only_fields(path, &["edit", "name", "start", "end"], value)?;
     Ok(Edit::UpdateMarker { name, start, end })
 }
@@ -227,7 +227,7 @@ fn update_marker_at(alloc: Global, path: &FieldPath, value: &Value) -> Result<Ed
 /// An edit that takes a marker away.
 #[tactic(auto, unfolding(script_definitions::specs::Edits::remove_marker_at))]
 fn remove_marker_at(alloc: Global, path: &FieldPath, value: &Value) -> Result<Edit, FormFault>
-    ensures { Gives (λ edit. edit) result (remove_marker_at path.now (view value.now)) }
+    ensures { Reads (λ edit. edit) result (remove_marker_at path.now (view value.now)) }
 {
     let name = name_field(alloc, path, "name", value)?;
     only_fields(path, &["edit", "name"], value)?;
@@ -242,10 +242,10 @@ fn end_or(
     start: &Position,
     value: &Value,
 ) -> Result<Position, FormFault>
-    ensures { Gives (λ end. end) result (end_or path.now start.now (view value.now)) }
+    ensures { Reads (λ end. end) result (end_or path.now start.now (view value.now)) }
 {
     if value.get("end").is_some() {
-        return place_field(alloc, path, "end", value);
+        return model_position_field(alloc, path, "end", value);
     }
     Ok(start.copy())
 }
@@ -253,9 +253,9 @@ fn end_or(
 /// An edit that selects a range.
 #[tactic(auto, unfolding(script_definitions::specs::Edits::select_at))]
 fn select_at(alloc: Global, path: &FieldPath, value: &Value) -> Result<Edit, FormFault>
-    ensures { Gives (λ edit. edit) result (select_at path.now (view value.now)) }
+    ensures { Reads (λ edit. edit) result (select_at path.now (view value.now)) }
 {
-    let start = place_field(alloc, path, "start", value)?;
+    let start = model_position_field(alloc, path, "start", value)?;
     let end = end_or(alloc, path, &start, value)?;
     let backward = optional_truth(path, "backward", value)?;
     only_fields(path, &["edit", "start", "end", "backward"], value)?;
@@ -269,7 +269,7 @@ fn select_at(alloc: Global, path: &FieldPath, value: &Value) -> Result<Edit, For
 /// An edit that overrides an attribute of the selection.
 #[tactic(auto, unfolding(script_definitions::specs::Edits::selection_attribute_at))]
 fn selection_attribute_at(alloc: Global, path: &FieldPath, value: &Value) -> Result<Edit, FormFault>
-    ensures { Gives (λ edit. edit) result (selection_attribute_at path.now (view value.now)) }
+    ensures { Reads (λ edit. edit) result (selection_attribute_at path.now (view value.now)) }
 {
     let key = name_field(alloc, path, "key", value)?;
     let found = nullable_field(alloc, path, "value", value)?;
@@ -285,7 +285,7 @@ fn beside_edit_of(
     path: &FieldPath,
     value: &Value,
 ) -> Result<Edit, FormFault>
-    ensures { Gives (λ edit. edit) result (beside_edit_of kind.now path.now (view value.now)) }
+    ensures { Reads (λ edit. edit) result (beside_edit_of kind.now path.now (view value.now)) }
 {
     match kind {
         "addMarker" => add_marker_at(alloc, path, value),
@@ -305,7 +305,7 @@ fn element_edit_of(
     path: &FieldPath,
     value: &Value,
 ) -> Result<Edit, FormFault>
-    ensures { Gives (λ edit. edit) result (element_edit_of kind.now path.now (view value.now)) }
+    ensures { Reads (λ edit. edit) result (element_edit_of kind.now path.now (view value.now)) }
 {
     match kind {
         "rename" => rename_at(alloc, path, value),
@@ -320,7 +320,7 @@ fn element_edit_of(
 /// An edit by its name.
 #[tactic(auto, unfolding(script_definitions::specs::Edits::edit_of))]
 fn edit_of(alloc: Global, kind: &str, path: &FieldPath, value: &Value) -> Result<Edit, FormFault>
-    ensures { Gives (λ edit. edit) result (edit_of kind.now path.now (view value.now)) }
+    ensures { Reads (λ edit. edit) result (edit_of kind.now path.now (view value.now)) }
 {
     match kind {
         "insertText" => insert_text_at(alloc, path, value),
@@ -336,7 +336,7 @@ fn edit_of(alloc: Global, kind: &str, path: &FieldPath, value: &Value) -> Result
 /// An edit at this place.
 #[tactic(auto, unfolding(script_definitions::specs::Edits::edit_at))]
 pub(crate) fn edit_at(alloc: Global, path: &FieldPath, value: &Value) -> Result<Edit, FormFault>
-    ensures { Gives (λ edit. edit) result (edit_at path.now (view value.now)) }
+    ensures { Reads (λ edit. edit) result (edit_at path.now (view value.now)) }
 {
     object_at(path, value)?;
     let kind = text_field(path, "edit", value)?;

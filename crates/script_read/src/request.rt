@@ -1,7 +1,7 @@
 //! From a script line to the request that it makes.
 ghost use Rattle.std.specs.Prelude.{◌≡◌, Some};
 ghost use Rattle.serde_json.specs.View.{view, items_view};
-ghost use Rattle.json_forms.specs.Form.{Gives};
+ghost use Rattle.json_forms.specs.Form.{Reads};
 ghost use Rattle.script_definitions.specs.Edits.{edits_at};
 ghost use Rattle.script_definitions.specs.Places.{numbers_at, place_of, place_field};
 ghost use Rattle.script_definitions.specs.Request.{change_of, select_view_of, show_of, form_of, request_of};
@@ -20,7 +20,7 @@ use view_tree::path::{ViewPath, ViewPlace};
 /// The edits of a list.
 #[tactic(auto, using(json_names::proofs::Fronts::with_front_more), unfolding(script_definitions::specs::Edits::edits_at))]
 fn edits_at(alloc: Global, path: &FieldPath, items: &Vec<Value>) -> Result<Vec<Edit>, FormFault>
-    ensures { Gives (λ edits. edits.items) result (edits_at path.now 0 (items_view items.now.items)) }
+    ensures { Reads (λ edits. edits.items) result (edits_at path.now 0 (items_view items.now.items)) }
 {
     let mut edits = Vec::with_capacity(alloc, items.len())?;
     for (index, item) in items.iter().enumerate() {
@@ -33,7 +33,7 @@ fn edits_at(alloc: Global, path: &FieldPath, items: &Vec<Value>) -> Result<Vec<E
 /// A change, which may have no edit.
 #[tactic(auto, unfolding(script_definitions::specs::Request::change_of))]
 fn change_of(alloc: Global, value: &Value) -> Result<Request, FormFault>
-    ensures { Gives (λ request. request) result (change_of (view value.now)) }
+    ensures { Reads (λ request. request) result (change_of (view value.now)) }
 {
     let root = FieldPath::new(alloc);
     let Some(items) = value.get("edits").and_then(Value::as_array) else {
@@ -48,7 +48,7 @@ fn change_of(alloc: Global, value: &Value) -> Result<Request, FormFault>
 /// The numbers of a list, of 64 bits each.
 #[tactic(auto, using(json_forms::proofs::Offsets::with_front_more), unfolding(script_definitions::specs::Places::numbers_at))]
 fn numbers_at(alloc: Global, path: &FieldPath, items: &Vec<Value>) -> Result<Vec<u64>, FormFault>
-    ensures { Gives (λ numbers. numbers.items) result (numbers_at path.now 0 (items_view items.now.items)) }
+    ensures { Reads (λ numbers. numbers.items) result (numbers_at path.now 0 (items_view items.now.items)) }
 {
     let mut numbers = Vec::with_capacity(alloc, items.len())?;
     for (index, item) in items.iter().enumerate() {
@@ -87,7 +87,7 @@ fn place_field(
     name: &str,
     value: &Value,
 ) -> Result<ViewPlace, FormFault>
-    ensures { Gives (λ place. place) result (place_field path.now name.now (view value.now)) }
+    ensures { Reads (λ place. place) result (place_field path.now name.now (view value.now)) }
 {
     let Some(items) = value.get(name).and_then(Value::as_array) else {
         return Err(bad_field(path, name));
@@ -103,7 +103,7 @@ fn place_field(
 /// A selection by two places of the view.
 #[tactic(auto, unfolding(script_definitions::specs::Request::select_view_of))]
 fn select_view_of(alloc: Global, value: &Value) -> Result<Request, FormFault>
-    ensures { Gives (λ request. request) result (select_view_of (view value.now)) }
+    ensures { Reads (λ request. request) result (select_view_of (view value.now)) }
 {
     let root = FieldPath::new(alloc);
     let anchor = place_field(alloc, &root, "anchor", value)?;
@@ -115,7 +115,7 @@ fn select_view_of(alloc: Global, value: &Value) -> Result<Request, FormFault>
 /// A show, with the selection or without: with it where the field isn't there.
 #[tactic(auto, unfolding(script_definitions::specs::Request::show_of))]
 fn show_of(alloc: Global, value: &Value) -> Result<Request, FormFault>
-    ensures { Gives (λ request. request) result (show_of (view value.now)) }
+    ensures { Reads (λ request. request) result (show_of (view value.now)) }
 {
     let root = FieldPath::new(alloc);
     let selection = optional_truth(&root, "selection", value)?;
@@ -128,7 +128,7 @@ fn show_of(alloc: Global, value: &Value) -> Result<Request, FormFault>
 /// The request of the form that the field `do` names.
 #[tactic(auto, unfolding(script_definitions::specs::Request::form_of))]
 fn form_of(alloc: Global, kind: &str, value: &Value) -> Result<Request, FormFault>
-    ensures { Gives (λ request. request) result (form_of kind.now (view value.now)) }
+    ensures { Reads (λ request. request) result (form_of kind.now (view value.now)) }
 {
     match kind {
         "change" => change_of(alloc, value),
@@ -142,7 +142,7 @@ fn form_of(alloc: Global, kind: &str, value: &Value) -> Result<Request, FormFaul
 /// form of a request, and `NoMemory`.
 #[tactic(auto, unfolding(script_definitions::specs::Request::request_of))]
 pub fn read_request(alloc: Global, line: &[u8]) -> Result<Request, FormFault>
-    ensures { Gives (λ request. request) result (request_of line.now) }
+    ensures { Reads (λ request. request) result (request_of line.now) }
 {
     let value = json_of(alloc, line)?;
     let root = FieldPath::new(alloc);
