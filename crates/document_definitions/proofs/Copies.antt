@@ -7,7 +7,7 @@ use Rattle.std.specs.Cmp.Lexicographic.{nat_list_cmp_total}
 use Rattle.std.specs.FinMap.Entries.{below_all}
 use Rattle.std.proofs.lemmas.List.{append_assoc}
 use Rattle.ck_base.specs.Entries.{name_cmp, IsOrdered, with_value}
-use Rattle.ck_base.proofs.Ordered.{first, second}
+use Rattle.ck_base.proofs.Common.{first, second}
 
 both : (a b : Bool) → a ≡ true → b ≡ true → (a && b) ≡ true
 both true b p q = q

@@ -9,7 +9,8 @@ use Rattle.std.specs.List.Sorted.{IsSorted}
 use Rattle.std.specs.Map.{keys_of, lookup, remove_entry, set_value}
 use Rattle.std.specs.FinMap.Entries.{below_all, same_entries, find-put}
 use Rattle.ck_base.specs.Entries.{name_cmp, IsOrdered, value_of, with_value, without}
-use Rattle.ck_base.proofs.Ordered.{first, second, before_all, none_before, ordered_with_value}
+use Rattle.ck_base.proofs.Common.{first, second}
+use Rattle.ck_base.proofs.Ordered.{before_all, none_before, ordered_with_value}
 use Rattle.ck_base.proofs.Places.{same_name}
 use Rattle.item_definitions.specs.Position.{behind}
 use Rattle.item_definitions.proofs.Order.{behind-push}
