@@ -2,7 +2,7 @@
 //! `NoMemory`.
 ghost use Rattle.std.specs.Prelude.{◌≡◌, ◌≤◌, IfSome, unwrap_or};
 ghost use Rattle.serde_json.specs.View.{view};
-ghost use Rattle.json_forms.specs.Form.{Gives};
+ghost use Rattle.json_forms.specs.Form.{Reads};
 ghost use Rattle.settings_definitions.specs.Settings.{entries_field, checks_field, converters_field, form_at, form_of};
 ghost use Rattle.config_read.specs.FileForm.{form_view};
 
@@ -32,7 +32,7 @@ pub(crate) struct FileForm {
 /// The entries of the schema.
 #[tactic(auto, unfolding(settings_definitions::specs::Settings::entries_field))]
 fn entries_field(alloc: Global, value: &Value) -> Result<Vec<Entry>, FormFault>
-    ensures { Gives (λ entries. entries.items) result (entries_field (view value.now)) }
+    ensures { Reads (λ entries. entries.items) result (entries_field (view value.now)) }
 {
     let path = FieldPath::new(alloc);
     let Some(items) = value.get("schema").and_then(Value::as_array) else {
@@ -45,7 +45,7 @@ fn entries_field(alloc: Global, value: &Value) -> Result<Vec<Entry>, FormFault>
 /// The checks; where there is no such field, there are none.
 #[tactic(auto, unfolding(settings_definitions::specs::Settings::checks_field))]
 fn checks_field(alloc: Global, value: &Value) -> Result<Vec<Check>, FormFault>
-    ensures { Gives (λ checks. checks.items) result (checks_field (view value.now)) }
+    ensures { Reads (λ checks. checks.items) result (checks_field (view value.now)) }
 {
     let Some(found) = value.get("checks") else {
         return Ok(Vec::new(alloc));
@@ -65,7 +65,7 @@ fn converters_field(
     indexes: bool,
     value: &Value,
 ) -> Result<Vec<ConverterPlan>, FormFault>
-    ensures { Gives (λ plans. plans.items) result (converters_field indexes (view value.now)) }
+    ensures { Reads (λ plans. plans.items) result (converters_field indexes (view value.now)) }
 {
     let path = FieldPath::new(alloc);
     let Some(items) = value.get("converters").and_then(Value::as_array) else {
@@ -89,7 +89,7 @@ fn rounds_of(rounds: Option<u64>) -> u32
 /// What a settings file says, from its JSON value.
 #[tactic(auto, unfolding(settings_definitions::specs::Settings::form_at))]
 fn form_at(alloc: Global, value: &Value) -> Result<FileForm, FormFault>
-    ensures { Gives form_view result (form_at (view value.now)) }
+    ensures { Reads form_view result (form_at (view value.now)) }
 {
     let path = FieldPath::new(alloc);
     object_at(&path, value)?;
@@ -123,7 +123,7 @@ fn form_at(alloc: Global, value: &Value) -> Result<FileForm, FormFault>
 /// What a settings file says, or the first place that breaks its form.
 #[tactic(auto, unfolding(settings_definitions::specs::Settings::form_of))]
 pub(crate) fn form_of(alloc: Global, bytes: &[u8]) -> Result<FileForm, FormFault>
-    ensures { Gives form_view result (form_of bytes.now) }
+    ensures { Reads form_view result (form_of bytes.now) }
 {
     let value = json_of(alloc, bytes)?;
     form_at(alloc, &value)

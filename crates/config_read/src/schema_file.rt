@@ -3,7 +3,7 @@
 ghost use Rattle.std.specs.Prelude.{◌≡◌, codes};
 ghost use Rattle.serde_json.specs.Find.{get};
 ghost use Rattle.serde_json.specs.View.{view, items_view};
-ghost use Rattle.json_forms.specs.Form.{Gives};
+ghost use Rattle.json_forms.specs.Form.{Reads};
 ghost use Rattle.settings_definitions.specs.SchemaForm.{subject_at, list_name, flag_name, list_at, flag_at, places_at, sources_at, flags_at, entry_of, only_entry_fields, entry_at, entries_at, child_check_at, attribute_check_at, is_child_form, check_at, checks_at};
 
 use ck_base::faults::FieldPath;
@@ -20,7 +20,7 @@ use std::alloc::Global;
 /// The item of an entry: exactly one of `item` and `extend`.
 #[tactic(auto, unfolding(settings_definitions::specs::SchemaForm::subject_at))]
 fn subject_at(alloc: Global, path: &FieldPath, value: &Value) -> Result<Subject, FormFault>
-    ensures { Gives (λ subject. subject) result (subject_at path.now (view value.now)) }
+    ensures { Reads (λ subject. subject) result (subject_at path.now (view value.now)) }
 {
     match (value.get("item"), value.get("extend")) {
         (Some(found), None) => {
@@ -77,7 +77,7 @@ fn list_at(
     list: EntryList,
     value: &Value,
 ) -> Result<Names, FormFault>
-    ensures { Gives (λ names. names) result (list_at path.now list (view value.now)) }
+    ensures { Reads (λ names. names) result (list_at path.now list (view value.now)) }
 {
     let names = names_field(alloc, path, list_name(list), value)?;
     Ok(Names::new(names))
@@ -86,7 +86,7 @@ fn list_at(
 /// What is written of a flag of an entry.
 #[tactic(auto, unfolding(settings_definitions::specs::SchemaForm::flag_at))]
 fn flag_at(path: &FieldPath, flag: Flag, value: &Value) -> Result<Option<bool>, FormFault>
-    ensures { Gives (λ written. written) result (flag_at path.now flag (view value.now)) }
+    ensures { Reads (λ written. written) result (flag_at path.now flag (view value.now)) }
 {
     optional_truth(path, flag_name(flag), value)
 }
@@ -94,7 +94,7 @@ fn flag_at(path: &FieldPath, flag: Flag, value: &Value) -> Result<Option<bool>, 
 /// Where an entry's item may stand, what may stand in it, and its attributes.
 #[tactic(auto, unfolding(settings_definitions::specs::SchemaForm::places_at))]
 fn places_at(alloc: Global, path: &FieldPath, value: &Value) -> Result<Places, FormFault>
-    ensures { Gives (λ places. places) result (places_at path.now (view value.now)) }
+    ensures { Reads (λ places. places) result (places_at path.now (view value.now)) }
 {
     let allow_in = list_at(alloc, path, EntryList::AllowIn, value)?;
     let allow_children = list_at(alloc, path, EntryList::AllowChildren, value)?;
@@ -109,7 +109,7 @@ fn places_at(alloc: Global, path: &FieldPath, value: &Value) -> Result<Places, F
 /// The items from which an entry's item has something.
 #[tactic(auto, unfolding(settings_definitions::specs::SchemaForm::sources_at))]
 fn sources_at(alloc: Global, path: &FieldPath, value: &Value) -> Result<Sources, FormFault>
-    ensures { Gives (λ sources. sources) result (sources_at path.now (view value.now)) }
+    ensures { Reads (λ sources. sources) result (sources_at path.now (view value.now)) }
 {
     let allow_where = list_at(alloc, path, EntryList::AllowWhere, value)?;
     let allow_content_of = list_at(alloc, path, EntryList::AllowContentOf, value)?;
@@ -128,7 +128,7 @@ fn sources_at(alloc: Global, path: &FieldPath, value: &Value) -> Result<Sources,
 /// What is written of the flags of an entry's item.
 #[tactic(auto, unfolding(settings_definitions::specs::SchemaForm::flags_at))]
 fn flags_at(path: &FieldPath, value: &Value) -> Result<Flags, FormFault>
-    ensures { Gives (λ flags. flags) result (flags_at path.now (view value.now)) }
+    ensures { Reads (λ flags. flags) result (flags_at path.now (view value.now)) }
 {
     let is_block = flag_at(path, Flag::Block, value)?;
     let is_inline = flag_at(path, Flag::Inline, value)?;
@@ -173,7 +173,7 @@ fn entry_of(subject: Subject, places: Places, sources: Sources, flags: Flags) ->
 /// Tests that an entry has no fields but those of its form.
 #[tactic(auto, unfolding(settings_definitions::specs::SchemaForm::only_entry_fields))]
 fn only_entry_fields(path: &FieldPath, value: &Value) -> Result<(), FormFault>
-    ensures { Gives (λ _. tt) result (only_entry_fields path.now (view value.now)) }
+    ensures { Reads (λ _. tt) result (only_entry_fields path.now (view value.now)) }
 {
     only_fields(
         path,
@@ -202,7 +202,7 @@ fn only_entry_fields(path: &FieldPath, value: &Value) -> Result<(), FormFault>
 /// An entry of the schema.
 #[tactic(auto, unfolding(settings_definitions::specs::SchemaForm::entry_at))]
 fn entry_at(alloc: Global, path: &FieldPath, value: &Value) -> Result<Entry, FormFault>
-    ensures { Gives (λ entry. entry) result (entry_at path.now (view value.now)) }
+    ensures { Reads (λ entry. entry) result (entry_at path.now (view value.now)) }
 {
     object_at(path, value)?;
     let subject = subject_at(alloc, path, value)?;
@@ -220,7 +220,7 @@ pub fn entries_at(
     path: &FieldPath,
     items: &Vec<Value>,
 ) -> Result<Vec<Entry>, FormFault>
-    ensures { Gives (λ entries. entries.items) result (entries_at path.now 0 (items_view items.now.items)) }
+    ensures { Reads (λ entries. entries.items) result (entries_at path.now 0 (items_view items.now.items)) }
 {
     let mut entries = Vec::with_capacity(alloc, items.len())?;
     for (index, item) in items.iter().enumerate() {
@@ -233,7 +233,7 @@ pub fn entries_at(
 /// A check of an item.
 #[tactic(auto, unfolding(settings_definitions::specs::SchemaForm::child_check_at))]
 fn child_check_at(alloc: Global, path: &FieldPath, value: &Value) -> Result<Check, FormFault>
-    ensures { Gives (λ check. check) result (child_check_at path.now (view value.now)) }
+    ensures { Reads (λ check. check) result (child_check_at path.now (view value.now)) }
 {
     let child = name_field(alloc, path, "child", value)?;
     let ends_with = name_list_field(alloc, path, "endsWith", value)?;
@@ -249,7 +249,7 @@ fn child_check_at(alloc: Global, path: &FieldPath, value: &Value) -> Result<Chec
 /// A check of an attribute.
 #[tactic(auto, unfolding(settings_definitions::specs::SchemaForm::attribute_check_at))]
 fn attribute_check_at(alloc: Global, path: &FieldPath, value: &Value) -> Result<Check, FormFault>
-    ensures { Gives (λ check. check) result (attribute_check_at path.now (view value.now)) }
+    ensures { Reads (λ check. check) result (attribute_check_at path.now (view value.now)) }
 {
     let attribute = name_field(alloc, path, "attribute", value)?;
     let ends_with = name_list_field(alloc, path, "endsWith", value)?;
@@ -272,7 +272,7 @@ fn is_child_form(value: &Value) -> bool
 /// A check.
 #[tactic(auto, unfolding(settings_definitions::specs::SchemaForm::check_at))]
 fn check_at(alloc: Global, path: &FieldPath, value: &Value) -> Result<Check, FormFault>
-    ensures { Gives (λ check. check) result (check_at path.now (view value.now)) }
+    ensures { Reads (λ check. check) result (check_at path.now (view value.now)) }
 {
     object_at(path, value)?;
     if is_child_form(value) {
@@ -289,7 +289,7 @@ pub fn checks_at(
     path: &FieldPath,
     items: &Vec<Value>,
 ) -> Result<Vec<Check>, FormFault>
-    ensures { Gives (λ checks. checks.items) result (checks_at path.now 0 (items_view items.now.items)) }
+    ensures { Reads (λ checks. checks.items) result (checks_at path.now 0 (items_view items.now.items)) }
 {
     let mut checks = Vec::with_capacity(alloc, items.len())?;
     for (index, item) in items.iter().enumerate() {

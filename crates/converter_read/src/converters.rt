@@ -2,7 +2,7 @@
 //! that breaks the form, or `NoMemory`; a path leads to the value that is read.
 ghost use Rattle.std.specs.Prelude.{◌≡◌, [], Ok, codes};
 ghost use Rattle.serde_json.specs.View.{view, items_view};
-ghost use Rattle.json_forms.specs.Form.{Gives};
+ghost use Rattle.json_forms.specs.Form.{Reads};
 ghost use Rattle.converter_read.specs.PatternForm.{pattern_at};
 ghost use Rattle.converter_read.specs.ShapeForm.{shape_at};
 ghost use Rattle.converter_read.specs.ViewForm.{viewed, element_view_at, layer_view_at, attribute_view_at, highlight_view_at, leaf_at};
@@ -38,7 +38,7 @@ fn viewed_element(
     path: &FieldPath,
     value: &Value,
 ) -> Result<ElementView, FormFault>
-    ensures { Gives (λ found. found) result (viewed (element_view_at indexes) path.now (view value.now)) }
+    ensures { Reads (λ found. found) result (viewed (element_view_at indexes) path.now (view value.now)) }
 {
     let found = view_field(path, value)?;
     let place = path.field("view")?;
@@ -52,7 +52,7 @@ fn viewed_shape(
     path: &FieldPath,
     value: &Value,
 ) -> Result<Shape<Patterns>, FormFault>
-    ensures { Gives (λ found. found) result (viewed (shape_at indexes) path.now (view value.now)) }
+    ensures { Reads (λ found. found) result (viewed (shape_at indexes) path.now (view value.now)) }
 {
     let found = view_field(path, value)?;
     let place = path.field("view")?;
@@ -61,7 +61,7 @@ fn viewed_shape(
 
 /// What `attributeToElement` makes.
 fn viewed_layer(alloc: Global, path: &FieldPath, value: &Value) -> Result<LayerView, FormFault>
-    ensures { Gives (λ found. found) result (viewed layer_view_at path.now (view value.now)) }
+    ensures { Reads (λ found. found) result (viewed layer_view_at path.now (view value.now)) }
 {
     let found = view_field(path, value)?;
     let place = path.field("view")?;
@@ -75,7 +75,7 @@ fn viewed_attribute(
     path: &FieldPath,
     value: &Value,
 ) -> Result<AttributeView, FormFault>
-    ensures { Gives (λ found. found) result (viewed (attribute_view_at indexes) path.now (view value.now)) }
+    ensures { Reads (λ found. found) result (viewed (attribute_view_at indexes) path.now (view value.now)) }
 {
     let found = view_field(path, value)?;
     let place = path.field("view")?;
@@ -88,7 +88,7 @@ fn viewed_highlight(
     path: &FieldPath,
     value: &Value,
 ) -> Result<HighlightView, FormFault>
-    ensures { Gives (λ found. found) result (viewed highlight_view_at path.now (view value.now)) }
+    ensures { Reads (λ found. found) result (viewed highlight_view_at path.now (view value.now)) }
 {
     let found = view_field(path, value)?;
     let place = path.field("view")?;
@@ -97,7 +97,7 @@ fn viewed_highlight(
 
 /// What `markerToElement` makes.
 fn viewed_leaf(alloc: Global, path: &FieldPath, value: &Value) -> Result<Leaf, FormFault>
-    ensures { Gives (λ found. found) result (viewed leaf_at path.now (view value.now)) }
+    ensures { Reads (λ found. found) result (viewed leaf_at path.now (view value.now)) }
 {
     let found = view_field(path, value)?;
     let place = path.field("view")?;
@@ -117,7 +117,7 @@ fn stock_plan(priority: Priority, converter: StockConverter) -> ConverterPlan
 /// Tests that a converter of elements has no fields but those of its form.
 #[tactic(auto, unfolding(crate::specs::ConverterForm::only_element_fields))]
 fn only_element_fields(path: &FieldPath, value: &Value) -> Result<(), FormFault>
-    ensures { Gives (λ _. tt) result (only_element_fields path.now (view value.now)) }
+    ensures { Reads (λ _. tt) result (only_element_fields path.now (view value.now)) }
 {
     only_fields(
         path,
@@ -134,7 +134,7 @@ fn element_converter_at(
     path: &FieldPath,
     value: &Value,
 ) -> Result<ConverterPlan, FormFault>
-    ensures { Gives (λ plan. plan) result (element_converter_at indexes path.now (view value.now)) }
+    ensures { Reads (λ plan. plan) result (element_converter_at indexes path.now (view value.now)) }
 {
     let model = name_field(alloc, path, "model", value)?;
     let attributes = attributes_field(alloc, path, "attributes", value)?;
@@ -161,7 +161,7 @@ fn structure_converter_at(
     path: &FieldPath,
     value: &Value,
 ) -> Result<ConverterPlan, FormFault>
-    ensures { Gives (λ plan. plan) result (structure_converter_at indexes path.now (view value.now)) }
+    ensures { Reads (λ plan. plan) result (structure_converter_at indexes path.now (view value.now)) }
 {
     let model = name_field(alloc, path, "model", value)?;
     let attributes = attributes_field(alloc, path, "attributes", value)?;
@@ -188,7 +188,7 @@ fn optional_value(
     name: &str,
     value: &Value,
 ) -> Result<Option<AttributeValue>, FormFault>
-    ensures { Gives (λ found. found) result (optional_value path.now name.now (view value.now)) }
+    ensures { Reads (λ found. found) result (optional_value path.now name.now (view value.now)) }
 {
     let Some(found) = value.get(name) else {
         return Ok(None);
@@ -205,7 +205,7 @@ fn layer_converter_at(
     path: &FieldPath,
     value: &Value,
 ) -> Result<ConverterPlan, FormFault>
-    ensures { Gives (λ plan. plan) result (layer_converter_at path.now (view value.now)) }
+    ensures { Reads (λ plan. plan) result (layer_converter_at path.now (view value.now)) }
 {
     let model = name_field(alloc, path, "model", value)?;
     let wanted = optional_value(alloc, path, "value", value)?;
@@ -224,7 +224,7 @@ fn layer_converter_at(
 
 /// Whether a value is the pattern of an index.
 fn reads_index(alloc: Global, indexes: bool, value: &Value) -> Result<bool, FormFault>
-    ensures { Gives (λ counted. counted) result (Ok (reads_index (pattern_at indexes [] (view value.now)))) }
+    ensures { Reads (λ counted. counted) result (Ok (reads_index (pattern_at indexes [] (view value.now)))) }
 {
     let path = FieldPath::new(alloc);
     match pattern_at(alloc, indexes, &path, value) {
@@ -237,7 +237,7 @@ fn reads_index(alloc: Global, indexes: bool, value: &Value) -> Result<bool, Form
 /// Whether the text of the attribute is an index.
 #[tactic(auto, unfolding(crate::specs::ConverterForm::is_index_view))]
 fn is_index_view(alloc: Global, indexes: bool, value: &Value) -> Result<bool, FormFault>
-    ensures { Gives (λ counted. counted) result (Ok (is_index_view indexes (view value.now))) }
+    ensures { Reads (λ counted. counted) result (Ok (is_index_view indexes (view value.now))) }
 {
     let Some(found) = value.get("view") else {
         return Ok(false);
@@ -256,7 +256,7 @@ fn element_field(
     path: &FieldPath,
     value: &Value,
 ) -> Result<Option<Name>, FormFault>
-    ensures { Gives (λ name. name) result (element_field indexes path.now (view value.now)) }
+    ensures { Reads (λ name. name) result (element_field indexes path.now (view value.now)) }
 {
     let element = optional_name(alloc, path, "element", value)?;
     let counted = is_index_view(alloc, indexes, value)?;
@@ -275,7 +275,7 @@ fn attribute_converter_at(
     path: &FieldPath,
     value: &Value,
 ) -> Result<ConverterPlan, FormFault>
-    ensures { Gives (λ plan. plan) result (attribute_converter_at indexes path.now (view value.now)) }
+    ensures { Reads (λ plan. plan) result (attribute_converter_at indexes path.now (view value.now)) }
 {
     let element = element_field(alloc, indexes, path, value)?;
     let model = name_field(alloc, path, "model", value)?;
@@ -301,7 +301,7 @@ fn attribute_converter_at(
 /// Tests that a converter of markers has no fields but those of its form.
 #[tactic(auto, unfolding(crate::specs::ConverterForm::only_marker_fields))]
 fn only_marker_fields(path: &FieldPath, value: &Value) -> Result<(), FormFault>
-    ensures { Gives (λ _. tt) result (only_marker_fields path.now (view value.now)) }
+    ensures { Reads (λ _. tt) result (only_marker_fields path.now (view value.now)) }
 {
     only_fields(path, &["kind", "marker", "view", "priority"], value)
 }
@@ -313,7 +313,7 @@ fn highlight_converter_at(
     path: &FieldPath,
     value: &Value,
 ) -> Result<ConverterPlan, FormFault>
-    ensures { Gives (λ plan. plan) result (highlight_converter_at path.now (view value.now)) }
+    ensures { Reads (λ plan. plan) result (highlight_converter_at path.now (view value.now)) }
 {
     let marker = name_field(alloc, path, "marker", value)?;
     let highlight = viewed_highlight(alloc, path, value)?;
@@ -335,7 +335,7 @@ fn leaf_converter_at(
     path: &FieldPath,
     value: &Value,
 ) -> Result<ConverterPlan, FormFault>
-    ensures { Gives (λ plan. plan) result (leaf_converter_at path.now (view value.now)) }
+    ensures { Reads (λ plan. plan) result (leaf_converter_at path.now (view value.now)) }
 {
     let marker = name_field(alloc, path, "marker", value)?;
     let leaf = viewed_leaf(alloc, path, value)?;
@@ -355,7 +355,7 @@ fn index_field(
     path: &FieldPath,
     value: &Value,
 ) -> Result<Option<Name>, FormFault>
-    ensures { Gives (λ name. name) result (index_field indexes path.now (view value.now)) }
+    ensures { Reads (λ name. name) result (index_field indexes path.now (view value.now)) }
 {
     if indexes {
         optional_name(alloc, path, "index", value)
@@ -367,7 +367,7 @@ fn index_field(
 /// Tests that a product's converter has no fields but those of its form where indexes may be asked for.
 #[tactic(auto, unfolding(crate::specs::ConverterForm::only_indexed_fields))]
 fn only_indexed_fields(path: &FieldPath, value: &Value) -> Result<(), FormFault>
-    ensures { Gives (λ _. tt) result (only_indexed_fields path.now (view value.now)) }
+    ensures { Reads (λ _. tt) result (only_indexed_fields path.now (view value.now)) }
 {
     only_fields(path, &["kind", "name", "priority", "index"], value)
 }
@@ -375,7 +375,7 @@ fn only_indexed_fields(path: &FieldPath, value: &Value) -> Result<(), FormFault>
 /// Tests that a product's converter has no fields but those of its form where no index may be asked for.
 #[tactic(auto, unfolding(crate::specs::ConverterForm::only_plain_fields))]
 fn only_plain_fields(path: &FieldPath, value: &Value) -> Result<(), FormFault>
-    ensures { Gives (λ _. tt) result (only_plain_fields path.now (view value.now)) }
+    ensures { Reads (λ _. tt) result (only_plain_fields path.now (view value.now)) }
 {
     only_fields(path, &["kind", "name", "priority"], value)
 }
@@ -383,7 +383,7 @@ fn only_plain_fields(path: &FieldPath, value: &Value) -> Result<(), FormFault>
 /// Tests that a product's converter has no fields but those of its form.
 #[tactic(auto, unfolding(crate::specs::ConverterForm::only_custom_fields))]
 fn only_custom_fields(indexes: bool, path: &FieldPath, value: &Value) -> Result<(), FormFault>
-    ensures { Gives (λ _. tt) result (only_custom_fields indexes path.now (view value.now)) }
+    ensures { Reads (λ _. tt) result (only_custom_fields indexes path.now (view value.now)) }
 {
     if indexes {
         only_indexed_fields(path, value)
@@ -400,7 +400,7 @@ fn custom_converter_at(
     path: &FieldPath,
     value: &Value,
 ) -> Result<ConverterPlan, FormFault>
-    ensures { Gives (λ plan. plan) result (custom_converter_at indexes path.now (view value.now)) }
+    ensures { Reads (λ plan. plan) result (custom_converter_at indexes path.now (view value.now)) }
 {
     let name = name_field(alloc, path, "name", value)?;
     let priority = priority_field(path, value)?;
@@ -432,7 +432,7 @@ fn kind_of(word: &str) -> Option<ConverterKind>
 /// The kind of a converter.
 #[tactic(auto, unfolding(crate::specs::ConverterForm::kind_field))]
 fn kind_field(path: &FieldPath, value: &Value) -> Result<ConverterKind, FormFault>
-    ensures { Gives (λ kind. kind) result (kind_field path.now (view value.now)) }
+    ensures { Reads (λ kind. kind) result (kind_field path.now (view value.now)) }
 {
     match value.get("kind").and_then(Value::as_str).and_then(kind_of) {
         Some(kind) => Ok(kind),
@@ -449,7 +449,7 @@ fn kind_converter_at(
     path: &FieldPath,
     value: &Value,
 ) -> Result<ConverterPlan, FormFault>
-    ensures { Gives (λ plan. plan) result (kind_converter_at kind indexes path.now (view value.now)) }
+    ensures { Reads (λ plan. plan) result (kind_converter_at kind indexes path.now (view value.now)) }
 {
     match kind {
         ConverterKind::Element => element_converter_at(alloc, indexes, path, value),
@@ -470,7 +470,7 @@ fn converter_at(
     path: &FieldPath,
     value: &Value,
 ) -> Result<ConverterPlan, FormFault>
-    ensures { Gives (λ plan. plan) result (converter_at indexes path.now (view value.now)) }
+    ensures { Reads (λ plan. plan) result (converter_at indexes path.now (view value.now)) }
 {
     object_at(path, value)?;
     let kind = kind_field(path, value)?;
@@ -487,7 +487,7 @@ pub fn converters_at(
     path: &FieldPath,
     items: &Vec<Value>,
 ) -> Result<Vec<ConverterPlan>, FormFault>
-    ensures { Gives (λ plans. plans.items) result (converters_at indexes path.now 0 (items_view items.now.items)) }
+    ensures { Reads (λ plans. plans.items) result (converters_at indexes path.now 0 (items_view items.now.items)) }
 {
     let mut plans = Vec::with_capacity(alloc, items.len())?;
     for (index, item) in items.iter().enumerate() {

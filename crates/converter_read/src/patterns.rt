@@ -2,7 +2,7 @@
 //! the form, or `NoMemory`; a path leads to the value that is read.
 ghost use Rattle.std.specs.Prelude.{◌≡◌, [], IfOk};
 ghost use Rattle.serde_json.specs.View.{view, members_view};
-ghost use Rattle.json_forms.specs.Form.{Gives};
+ghost use Rattle.json_forms.specs.Form.{Reads};
 ghost use Rattle.converter_read.specs.PatternForm.{from_pattern, index_pattern, object_pattern, pattern_at, key_pattern_at, patterns_from, patterns_field, key_text_at, texts_from, texts_field};
 
 use ck_base::attributes::ViewAttrs;
@@ -23,7 +23,7 @@ const MAX_BASE: u64 = 1000000;
 /// A pattern that takes the value of an attribute.
 #[tactic(auto, unfolding(crate::specs::PatternForm::from_pattern))]
 fn from_pattern(alloc: Global, path: &FieldPath, value: &Value) -> Result<Pattern, FormFault>
-    ensures { Gives (λ pattern. pattern) result (from_pattern path.now (view value.now)) }
+    ensures { Reads (λ pattern. pattern) result (from_pattern path.now (view value.now)) }
 {
     let key = name_field(alloc, path, "from", value)?;
     only_fields(path, &["from"], value)?;
@@ -33,7 +33,7 @@ fn from_pattern(alloc: Global, path: &FieldPath, value: &Value) -> Result<Patter
 /// A pattern that takes an index.
 #[tactic(auto, unfolding(crate::specs::PatternForm::index_pattern))]
 fn index_pattern(path: &FieldPath, value: &Value) -> Result<Pattern, FormFault>
-    ensures { Gives (λ pattern. pattern) result (index_pattern path.now (view value.now)) }
+    ensures { Reads (λ pattern. pattern) result (index_pattern path.now (view value.now)) }
 {
     let base = count_field(path, "index", 0, MAX_BASE, value)?;
     only_fields(path, &["index"], value)?;
@@ -48,7 +48,7 @@ fn object_pattern(
     path: &FieldPath,
     value: &Value,
 ) -> Result<Pattern, FormFault>
-    ensures { Gives (λ pattern. pattern) result (object_pattern indexes path.now (view value.now)) }
+    ensures { Reads (λ pattern. pattern) result (object_pattern indexes path.now (view value.now)) }
 {
     object_at(path, value)?;
     if indexes && value.get("index").is_some() {
@@ -68,7 +68,7 @@ pub(crate) fn pattern_at(
     path: &FieldPath,
     value: &Value,
 ) -> Result<Pattern, FormFault>
-    ensures { Gives (λ pattern. pattern) result (pattern_at indexes path.now (view value.now)) }
+    ensures { Reads (λ pattern. pattern) result (pattern_at indexes path.now (view value.now)) }
 {
     match value.as_str() {
         Some(text) => {
@@ -88,7 +88,7 @@ fn key_pattern_at(
     key: &str,
     value: &Value,
 ) -> Result<(Name, Pattern), FormFault>
-    ensures reads { Gives (λ both. both.1) result (key_pattern_at indexes path.now key.now (view value.now)) }
+    ensures reads { Reads (λ both. both.1) result (key_pattern_at indexes path.now key.now (view value.now)) }
     ensures key { IfOk result (λ both. both.0 ≡ key.now) }
 {
     let name = match Name::read(alloc, key) {
@@ -109,7 +109,7 @@ fn patterns_of(
     path: &FieldPath,
     members: &Map<String, Value>,
 ) -> Result<Patterns, FormFault>
-    ensures { Gives (λ patterns. patterns) result (patterns_from indexes path.now (members_view members.now.entries)) }
+    ensures { Reads (λ patterns. patterns) result (patterns_from indexes path.now (members_view members.now.entries)) }
 {
     let mut patterns = Patterns::new(alloc);
     for (key, value) in members {
@@ -128,7 +128,7 @@ pub(crate) fn patterns_field(
     name: &str,
     value: &Value,
 ) -> Result<Patterns, FormFault>
-    ensures { Gives (λ patterns. patterns) result (patterns_field indexes path.now name.now (view value.now)) }
+    ensures { Reads (λ patterns. patterns) result (patterns_field indexes path.now name.now (view value.now)) }
 {
     let Some(found) = value.get(name) else {
         return Ok(Patterns::new(alloc));
@@ -148,7 +148,7 @@ fn key_text_at(
     key: &str,
     value: &Value,
 ) -> Result<(Name, ViewText), FormFault>
-    ensures reads { Gives (λ both. both.1) result (key_text_at path.now key.now (view value.now)) }
+    ensures reads { Reads (λ both. both.1) result (key_text_at path.now key.now (view value.now)) }
     ensures key { IfOk result (λ both. both.0 ≡ key.now) }
 {
     let name = match Name::read(alloc, key) {
@@ -170,7 +170,7 @@ fn texts_of(
     path: &FieldPath,
     members: &Map<String, Value>,
 ) -> Result<ViewAttrs, FormFault>
-    ensures { Gives (λ texts. texts) result (texts_from path.now [] (members_view members.now.entries)) }
+    ensures { Reads (λ texts. texts) result (texts_from path.now [] (members_view members.now.entries)) }
 {
     let mut texts = ViewAttrs::new(alloc);
     for (key, value) in members {
@@ -188,7 +188,7 @@ pub(crate) fn texts_field(
     name: &str,
     value: &Value,
 ) -> Result<ViewAttrs, FormFault>
-    ensures { Gives (λ texts. texts) result (texts_field path.now name.now (view value.now)) }
+    ensures { Reads (λ texts. texts) result (texts_field path.now name.now (view value.now)) }
 {
     let Some(found) = value.get(name) else {
         return Ok(ViewAttrs::new(alloc));

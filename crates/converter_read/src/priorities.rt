@@ -1,7 +1,7 @@
 //! Readers of priorities. Each answers what the definition of its name reads, `BadField` with the place of the priority, or `NoMemory`.
 ghost use Rattle.std.specs.Prelude.{◌≡◌, pos, option_and_then};
 ghost use Rattle.serde_json.specs.View.{view};
-ghost use Rattle.json_forms.specs.Form.{Gives};
+ghost use Rattle.json_forms.specs.Form.{Reads};
 ghost use Rattle.converter_read.specs.PriorityForm.{level_of, priority_of, priority_field, layer_priority_field};
 
 use ck_base::faults::FieldPath;
@@ -43,7 +43,7 @@ fn normal() -> Priority
 /// The priority of a converter.
 #[tactic(auto, unfolding(crate::specs::PriorityForm::priority_field))]
 pub(crate) fn priority_field(path: &FieldPath, value: &Value) -> Result<Priority, FormFault>
-    ensures { Gives (λ priority. priority) result (priority_field path.now (view value.now)) }
+    ensures { Reads (λ priority. priority) result (priority_field path.now (view value.now)) }
 {
     let Some(found) = value.get("priority") else {
         return Ok(normal());
@@ -57,7 +57,7 @@ pub(crate) fn priority_field(path: &FieldPath, value: &Value) -> Result<Priority
 /// The priority of a layer.
 #[tactic(auto, unfolding(crate::specs::PriorityForm::layer_priority_field))]
 pub(crate) fn layer_priority_field(path: &FieldPath, value: &Value) -> Result<i32, FormFault>
-    ensures { Gives (λ level. level) result (layer_priority_field path.now (view value.now)) }
+    ensures { Reads (λ level. level) result (layer_priority_field path.now (view value.now)) }
 {
     let Some(found) = value.get("priority") else {
         return Ok(10);

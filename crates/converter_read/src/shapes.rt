@@ -3,7 +3,7 @@
 ghost use Rattle.std.specs.Prelude.{◌≡◌, ◌<◌, ◌+◌, ◌&&◌, ◌==◌, true, Ok, IfOk, OnOk};
 ghost use Rattle.std.specs.Str.{chars};
 ghost use Rattle.serde_json.specs.View.{view, items_view};
-ghost use Rattle.json_forms.specs.Form.{Gives};
+ghost use Rattle.json_forms.specs.Form.{Reads};
 ghost use Rattle.converter_definitions.specs.Parts.{shape_of, shapes_of};
 ghost use Rattle.converter_read.specs.ShapeForm.{takes_slot, takes_text, takes_element, stands, behind, behind_all, inside, nodes_at, children_at, slot_field, slot_at, text_at, kind_of_type, type_field, head_at, element_at, object_node_at, node_of, node_at, below, shape_at};
 
@@ -78,7 +78,7 @@ fn takes_element(parent: Option<ShapeKind>, kind: ShapeKind) -> bool
 /// Tests whether a node may stand where it is, and counts it.
 #[tactic(auto, unfolding(crate::specs::ShapeForm::inside))]
 fn stand(path: &FieldPath, taken: bool, levels: u32, before: &mut Before) -> Result<(), FormFault>
-    ensures reads { Gives (λ _. tt) result (stands path.now taken levels before.old) }
+    ensures reads { Reads (λ _. tt) result (stands path.now taken levels before.old) }
     ensures taken { OnOk result (taken ≡ true) }
     ensures levels { OnOk result (0 < levels) }
     ensures counted { OnOk result (before.new ≡ inside before.old) }
@@ -94,7 +94,7 @@ fn stand(path: &FieldPath, taken: bool, levels: u32, before: &mut Before) -> Res
 /// Tests the field of a slot.
 #[tactic(auto, unfolding(crate::specs::ShapeForm::slot_field))]
 fn slot_field(path: &FieldPath, value: &Value) -> Result<(), FormFault>
-    ensures { Gives (λ _. tt) result (slot_field path.now (view value.now)) }
+    ensures { Reads (λ _. tt) result (slot_field path.now (view value.now)) }
 {
     let truth = truth_field(path, "slot", value)?;
     if truth {
@@ -112,7 +112,7 @@ fn slot_at(
     path: &FieldPath,
     value: &Value,
 ) -> Result<ShapeNode<Patterns>, FormFault>
-    ensures reads { Gives shape_of result (slot_at spot.levels spot.parent before.old path.now (view value.now)) }
+    ensures reads { Reads shape_of result (slot_at spot.levels spot.parent before.old path.now (view value.now)) }
     ensures counted { IfOk result (λ node. before.new ≡ behind (shape_of node) before.old) }
 {
     slot_field(path, value)?;
@@ -132,7 +132,7 @@ fn text_at(
     path: &FieldPath,
     text: &str,
 ) -> Result<ShapeNode<Patterns>, FormFault>
-    ensures reads { Gives shape_of result (text_at spot.levels spot.parent before.old path.now (chars text.now)) }
+    ensures reads { Reads shape_of result (text_at spot.levels spot.parent before.old path.now (chars text.now)) }
     ensures counted { IfOk result (λ node. before.new ≡ behind (shape_of node) before.old) }
 {
     stand(path, takes_text(spot.parent), spot.levels, before)?;
@@ -155,7 +155,7 @@ fn kind_of_type(word: &str) -> Option<ShapeKind>
 /// The kind of an element.
 #[tactic(auto, unfolding(crate::specs::ShapeForm::type_field))]
 fn type_field(path: &FieldPath, value: &Value) -> Result<ShapeKind, FormFault>
-    ensures { Gives (λ kind. kind) result (type_field path.now (view value.now)) }
+    ensures { Reads (λ kind. kind) result (type_field path.now (view value.now)) }
 {
     let Some(found) = value.get("type") else {
         return Ok(ShapeKind::Container);
@@ -169,7 +169,7 @@ fn type_field(path: &FieldPath, value: &Value) -> Result<ShapeKind, FormFault>
 /// An element's own fields.
 #[tactic(auto, unfolding(crate::specs::ShapeForm::head_at))]
 fn head_at(alloc: Global, indexes: bool, path: &FieldPath, value: &Value) -> Result<Head, FormFault>
-    ensures { Gives (λ head. head) result (head_at indexes path.now (view value.now)) }
+    ensures { Reads (λ head. head) result (head_at indexes path.now (view value.now)) }
 {
     let name = name_field(alloc, path, "name", value)?;
     let kind = type_field(path, value)?;
@@ -192,7 +192,7 @@ fn nodes_at(
     path: &FieldPath,
     items: &Vec<Value>,
 ) -> Result<Vec<ShapeNode<Patterns>>, FormFault>
-    ensures reads { Gives (λ nodes. shapes_of nodes.items) result
+    ensures reads { Reads (λ nodes. shapes_of nodes.items) result
         (nodes_at (node_at indexes spot.levels) spot.parent before.old path.now 0 (items_view items.now.items)) }
     ensures counted { IfOk result (λ nodes. before.new ≡ behind_all (shapes_of nodes.items) before.old) }
 {
@@ -215,7 +215,7 @@ fn children_at(
     path: &FieldPath,
     value: &Value,
 ) -> Result<Vec<ShapeNode<Patterns>>, FormFault>
-    ensures reads { Gives (λ nodes. shapes_of nodes.items) result
+    ensures reads { Reads (λ nodes. shapes_of nodes.items) result
         (children_at (node_at indexes spot.levels) spot.parent before.old path.now (view value.now)) }
     ensures counted { IfOk result (λ nodes. before.new ≡ behind_all (shapes_of nodes.items) before.old) }
 {
@@ -240,7 +240,7 @@ fn element_at(
     path: &FieldPath,
     value: &Value,
 ) -> Result<ShapeNode<Patterns>, FormFault>
-    ensures reads { Gives shape_of result
+    ensures reads { Reads shape_of result
         (element_at indexes (below indexes spot.levels) spot.levels spot.parent before.old path.now (view value.now)) }
     ensures counted { IfOk result (λ node. before.new ≡ behind (shape_of node) before.old) }
 {
@@ -276,7 +276,7 @@ fn object_node_at(
     path: &FieldPath,
     value: &Value,
 ) -> Result<ShapeNode<Patterns>, FormFault>
-    ensures reads { Gives shape_of result
+    ensures reads { Reads shape_of result
         (object_node_at indexes (below indexes spot.levels) spot.levels spot.parent before.old path.now (view value.now)) }
     ensures counted { IfOk result (λ node. before.new ≡ behind (shape_of node) before.old) }
 {
@@ -298,7 +298,7 @@ fn node_of(
     path: &FieldPath,
     value: &Value,
 ) -> Result<ShapeNode<Patterns>, FormFault>
-    ensures reads { Gives shape_of result
+    ensures reads { Reads shape_of result
         (node_of indexes (below indexes spot.levels) spot.levels spot.parent before.old path.now (view value.now)) }
     ensures counted { IfOk result (λ node. before.new ≡ behind (shape_of node) before.old) }
 {
@@ -320,7 +320,7 @@ fn node_at(
     path: &FieldPath,
     value: &Value,
 ) -> Result<ShapeNode<Patterns>, FormFault>
-    ensures reads { Gives shape_of result (node_at indexes spot.levels spot.parent before.old path.now (view value.now)) }
+    ensures reads { Reads shape_of result (node_at indexes spot.levels spot.parent before.old path.now (view value.now)) }
     ensures counted { IfOk result (λ node. before.new ≡ behind (shape_of node) before.old) }
 {
     let node = node_of(alloc, indexes, spot, before, path, value)?;
@@ -335,7 +335,7 @@ pub(crate) fn shape_at(
     path: &FieldPath,
     value: &Value,
 ) -> Result<Shape<Patterns>, FormFault>
-    ensures { Gives (λ shape. shape) result (shape_at indexes path.now (view value.now)) }
+    ensures { Reads (λ shape. shape) result (shape_at indexes path.now (view value.now)) }
 {
     let spot = Spot {
         parent: None,

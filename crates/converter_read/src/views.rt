@@ -2,7 +2,7 @@
 //! or `NoMemory`; a path leads to the value that is read.
 ghost use Rattle.std.specs.Prelude.{◌≡◌, codes, unwrap_or};
 ghost use Rattle.serde_json.specs.View.{view};
-ghost use Rattle.json_forms.specs.Form.{Gives, field_at};
+ghost use Rattle.json_forms.specs.Form.{Reads, field_at};
 ghost use Rattle.converter_read.specs.ViewForm.{is_empty_type, empty_type_field, element_view_at, only_layer_fields, layer_view_at, optional_pattern, attribute_view_at, highlight_name_field, highlight_view_at, leaf_at};
 
 use crate::patterns::{pattern_at, patterns_field, texts_field};
@@ -20,7 +20,7 @@ use std::alloc::Global;
 /// The field `view` of a converter.
 #[tactic(auto, unfolding(json_forms::specs::Form::field_at))]
 pub(crate) fn view_field<'a>(path: &FieldPath, value: &'a Value) -> Result<&'a Value, FormFault>
-    ensures { Gives (λ found. view found.now) result (field_at path.now (codes "view") (view value.now)) }
+    ensures { Reads (λ found. view found.now) result (field_at path.now (codes "view") (view value.now)) }
 {
     match value.get("view") {
         Some(found) => Ok(found),
@@ -42,7 +42,7 @@ fn is_empty_type(word: &str) -> Option<bool>
 /// Whether the type is `empty`.
 #[tactic(auto, unfolding(crate::specs::ViewForm::empty_type_field))]
 fn empty_type_field(path: &FieldPath, value: &Value) -> Result<bool, FormFault>
-    ensures { Gives (λ is_empty. is_empty) result (empty_type_field path.now (view value.now)) }
+    ensures { Reads (λ is_empty. is_empty) result (empty_type_field path.now (view value.now)) }
 {
     let Some(found) = value.get("type") else {
         return Ok(false);
@@ -61,7 +61,7 @@ pub(crate) fn element_view_at(
     path: &FieldPath,
     value: &Value,
 ) -> Result<ElementView, FormFault>
-    ensures { Gives (λ element. element) result (element_view_at indexes path.now (view value.now)) }
+    ensures { Reads (λ element. element) result (element_view_at indexes path.now (view value.now)) }
 {
     object_at(path, value)?;
     let name = name_field(alloc, path, "name", value)?;
@@ -78,7 +78,7 @@ pub(crate) fn element_view_at(
 /// Tests that an attribute element has no fields but those of its form.
 #[tactic(auto, unfolding(crate::specs::ViewForm::only_layer_fields))]
 fn only_layer_fields(path: &FieldPath, value: &Value) -> Result<(), FormFault>
-    ensures { Gives (λ _. tt) result (only_layer_fields path.now (view value.now)) }
+    ensures { Reads (λ _. tt) result (only_layer_fields path.now (view value.now)) }
 {
     only_fields(path, &["name", "attributes", "priority", "id"], value)
 }
@@ -90,7 +90,7 @@ pub(crate) fn layer_view_at(
     path: &FieldPath,
     value: &Value,
 ) -> Result<LayerView, FormFault>
-    ensures { Gives (λ layer. layer) result (layer_view_at path.now (view value.now)) }
+    ensures { Reads (λ layer. layer) result (layer_view_at path.now (view value.now)) }
 {
     object_at(path, value)?;
     let name = name_field(alloc, path, "name", value)?;
@@ -115,7 +115,7 @@ fn optional_pattern(
     name: &str,
     value: &Value,
 ) -> Result<Option<Pattern>, FormFault>
-    ensures { Gives (λ pattern. pattern) result (optional_pattern indexes path.now name.now (view value.now)) }
+    ensures { Reads (λ pattern. pattern) result (optional_pattern indexes path.now name.now (view value.now)) }
 {
     let Some(found) = value.get(name) else {
         return Ok(None);
@@ -133,7 +133,7 @@ pub(crate) fn attribute_view_at(
     path: &FieldPath,
     value: &Value,
 ) -> Result<AttributeView, FormFault>
-    ensures { Gives (λ attribute. attribute) result (attribute_view_at indexes path.now (view value.now)) }
+    ensures { Reads (λ attribute. attribute) result (attribute_view_at indexes path.now (view value.now)) }
 {
     object_at(path, value)?;
     let key = name_field(alloc, path, "key", value)?;
@@ -148,7 +148,7 @@ pub(crate) fn attribute_view_at(
 /// The name of a highlight: `span` where none is given.
 #[tactic(auto, unfolding(ck_base::specs::Name::is_name))]
 fn highlight_name(alloc: Global, name: Option<Name>) -> Result<Name, FormFault>
-    ensures { Gives (λ name. name) result (Ok (unwrap_or name (codes "span"))) }
+    ensures { Reads (λ name. name) result (Ok (unwrap_or name (codes "span"))) }
 {
     match name {
         Some(name) => Ok(name),
@@ -163,7 +163,7 @@ fn highlight_name(alloc: Global, name: Option<Name>) -> Result<Name, FormFault>
 /// The name of a highlight.
 #[tactic(auto, unfolding(crate::specs::ViewForm::highlight_name_field))]
 fn highlight_name_field(alloc: Global, path: &FieldPath, value: &Value) -> Result<Name, FormFault>
-    ensures { Gives (λ name. name) result (highlight_name_field path.now (view value.now)) }
+    ensures { Reads (λ name. name) result (highlight_name_field path.now (view value.now)) }
 {
     let name = optional_name(alloc, path, "name", value)?;
     highlight_name(alloc, name)
@@ -176,7 +176,7 @@ pub(crate) fn highlight_view_at(
     path: &FieldPath,
     value: &Value,
 ) -> Result<HighlightView, FormFault>
-    ensures { Gives (λ highlight. highlight) result (highlight_view_at path.now (view value.now)) }
+    ensures { Reads (λ highlight. highlight) result (highlight_view_at path.now (view value.now)) }
 {
     object_at(path, value)?;
     let name = highlight_name_field(alloc, path, value)?;
@@ -195,7 +195,7 @@ pub(crate) fn highlight_view_at(
 /// The UI element of a marker.
 #[tactic(auto, unfolding(crate::specs::ViewForm::leaf_at))]
 pub(crate) fn leaf_at(alloc: Global, path: &FieldPath, value: &Value) -> Result<Leaf, FormFault>
-    ensures { Gives (λ leaf. leaf) result (leaf_at path.now (view value.now)) }
+    ensures { Reads (λ leaf. leaf) result (leaf_at path.now (view value.now)) }
 {
     object_at(path, value)?;
     let name = name_field(alloc, path, "name", value)?;
