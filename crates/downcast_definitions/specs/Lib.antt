@@ -1,5 +1,6 @@
 pub mod Scene
 pub mod Rows
+pub mod Numbered
 pub mod Place
 pub mod Seen
 pub mod Shown

@@ -66,6 +66,20 @@ abbrev pub content : List ViewNode → List ViewNode
 content nodes = map plain_node nodes
 
 abbrev mutual
+  -- the same node without the counts of changes in it
+  pub uncounted_node : ViewNode → ViewNode
+  uncounted_node (text scalars) = text scalars
+  uncounted_node (element head children) = element (record head { changes = 0 }) (uncounted_nodes children)
+
+  pub uncounted_nodes : ViewNodes → ViewNodes
+  uncounted_nodes none = none
+  uncounted_nodes (more node nodes) = more (uncounted_node node) (uncounted_nodes nodes)
+
+-- a list of nodes without the counts of changes: its content and its numbers
+abbrev pub uncounted : List ViewNode → List ViewNode
+uncounted nodes = map uncounted_node nodes
+
+abbrev mutual
   -- how many levels of nodes there are from a node down
   pub node_depth : ViewNode → ℕ
   node_depth (text scalars) = 1
