@@ -29,6 +29,16 @@ abbrev pub put_at : List ℕ → List ViewNode → List ViewNode → List ViewNo
 put_at [] new nodes = new
 put_at (index ∷ path) new nodes = at_index index (with_inner (put_at path new)) nodes
 
+-- what is found in an element's children, else its own number; None for a text
+abbrev pub nearest_in : (List ViewNode → Option ℕ) → ViewNode → Option ℕ
+nearest_in below (text scalars) = None
+nearest_in below (element head children) = option_or (below (list_of children)) head.number
+
+-- the number of the innermost element with a number on a path: None where none has one
+abbrev pub nearest : List ℕ → List ViewNode → Option ℕ
+nearest [] nodes = None
+nearest (index ∷ path) nodes = option_and_then (nearest_in (nearest path)) (slice_get nodes index)
+
 -- whether an element has a number, or this holds of its children
 abbrev pub numbered_or : (List ViewNode → Bool) → ViewNode → Bool
 numbered_or below (text scalars) = false
