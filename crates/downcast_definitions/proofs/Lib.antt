@@ -19,3 +19,4 @@ pub mod RowItems
 pub mod Found
 pub mod Characters
 pub mod Rule
+pub mod CaretLayers

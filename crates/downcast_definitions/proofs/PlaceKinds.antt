@@ -7,7 +7,7 @@ use Rattle.view_definitions.specs.Layer.{Layer, in_layer, layer_head}
 use Rattle.view_definitions.specs.Row.{Content, leaf, item, character, caret, Piece, Pieces, nothing, first, bare, wrapped, character_before, content_before, shown, join_node}
 use Rattle.downcast_definitions.specs.Place.{pieces_size, Passed, none_passed, character_more, behind_content, begins_with_text, as_place, in_pieces}
 use Rattle.downcast_definitions.proofs.Entries.{may_stand, AllStand, contents, contents-size, stand-front, stand-rest, get-front, get-rest}
-use Rattle.downcast_definitions.proofs.Means.{shown-starts, starts_text}
+use Rattle.downcast_definitions.proofs.Means.{character-joins, character-joins-behind, starts_text, shown-starts, later}
 use Rattle.downcast_definitions.proofs.Tests.{is_below, not_below}
 use Rattle.downcast_definitions.specs.Among.{by_around}
 use Rattle.downcast_definitions.specs.Rule.{after, text_before, text_behind, kind_at, kind_of}
@@ -31,16 +31,6 @@ reads-node : (reads : List ℕ → Option Bool) (head : Head) (children : ViewNo
     → ReadsFrom reads (element head children ∷ nodes) count was → ReadsFrom reads nodes (count + 1) None
 reads-node reads head children nodes count None h = λ at index rest e. h at (suc index) rest (omega (arith, e))
 reads-node reads head children nodes count (Some len) h = λ at index rest k. h.reading at (suc (suc index)) rest (omega (arith, k))
-
-character-joins : (scalar : ℕ) (nodes : List ViewNode) → character_before scalar nodes ≡ join_node (text (scalar ∷ [])) nodes
-character-joins scalar [] = refl
-character-joins scalar (text scalars ∷ nodes) = refl
-character-joins scalar (element head children ∷ nodes) = refl
-
-character-joins-behind : (scalars : List ℕ) (scalar : ℕ) (nodes : List ViewNode) → join_node (text scalars) (character_before scalar nodes) ≡ join_node (text (scalars ++ scalar ∷ [])) nodes
-character-joins-behind scalars scalar [] = refl
-character-joins-behind scalars scalar (text others ∷ nodes) = ap (λ all. text all ∷ nodes) (sym (append_assoc scalars (scalar ∷ []) others))
-character-joins-behind scalars scalar (element head children ∷ nodes) = refl
 
 reads-character : (reads : List ℕ → Option Bool) (scalar : ℕ) (nodes : List ViewNode) (count : ℕ) (was : Option ℕ)
     → ReadsFrom reads (character_before scalar nodes) count was → Reads reads nodes (character_more count was)
@@ -117,12 +107,6 @@ in_text-after (item node) count was = refl
 in_text-after (character scalar) count None = refl
 in_text-after (character scalar) count (Some len) = refl
 in_text-after caret count was = refl
-
-not_zero : (n : ℕ) → (suc n == 0) ≡ false
-not_zero n = grind (arith, nat_tests)
-
-later : (n : ℕ) (here : List ℕ) (rest : ℕ → List ℕ) → (if suc n == 0 then here else rest (suc n - 1)) ≡ rest n
-later n here rest = ap (λ b. if b then here else rest (suc n - 1)) (not_zero n) ∙ ap rest (omega arith)
 
 abbrev Claim : Pieces → Type 0
 Claim pieces =

@@ -1,9 +1,10 @@
 -- The rule by which positions are seen, in its words: what stands before and behind a boundary, in what text its place is, and whether the place is
 -- behind a character of it.
-use Rattle.std.specs.Prelude.{◌≡◌, ℕ, ◌+◌, ◌-◌, zero, suc, nat_lt, List, [], ◌∷◌, ◌++◌, length, Bool, true, false, Option, Some, None, slice_get, if◌then◌else◌}
+use Rattle.std.specs.Prelude.{◌≡◌, ℕ, ◌+◌, ◌-◌, zero, suc, nat_lt, List, [], ◌∷◌, ◌++◌, length, Bool, true, false, Option, Some, None, option_map, slice_get, if◌then◌else◌}
 use Rattle.item_definitions.specs.Item.{Item}
 use Rattle.item_definitions.specs.Item as items
 use Rattle.view_definitions.specs.Node.{ViewNode, ViewNodes, text, element, none, more, nodes_of}
+use Rattle.view_definitions.specs.Layer.{Layer, layer_of}
 use Rattle.view_definitions.specs.Place.{node_at}
 use Rattle.view_definitions.specs.Row.{Content, leaf, item, character, caret, Pieces, nothing, first, bare, wrapped, nest}
 use Rattle.downcast_definitions.specs.Scene.{Scene, boundary}
@@ -103,3 +104,26 @@ kind_of false false = None
 -- the number of the caret's entry in the row of the element at a path, where the caret stands at this offset: the last one of its boundary
 abbrev pub caret_number : Scene → List ℕ → ℕ → ℕ
 caret_number scene path offset = entries_before scene path offset + length (boundary scene (path ++ offset ∷ [])) - 1
+
+-- ---- the attribute elements on the way
+
+-- the layers on the way into an element: None where it is no attribute element
+abbrev pub around_layer : Option Layer → Option (List Layer) → Option (List Layer)
+around_layer None inside = None
+around_layer (Some layer) inside = option_map (λ layers. layer ∷ layers) inside
+
+abbrev mutual
+  -- the layers on the way to a place in a node; in a text there are no further ones
+  pub layers_in : ViewNode → List ℕ → Option (List Layer)
+  layers_in (text scalars) place = Some []
+  layers_in (element head children) place = around_layer (layer_of head) (layers_to children place)
+
+  -- the layers of the attribute elements on the way to a place, the outermost first: None where the way leads through another element, or nowhere
+  pub layers_to : ViewNodes → List ℕ → Option (List Layer)
+  layers_to nodes [] = None
+  layers_to none (zero ∷ []) = Some []
+  layers_to none (zero ∷ next ∷ rest) = None
+  layers_to none (suc index ∷ rest) = None
+  layers_to (more node nodes) (zero ∷ []) = Some []
+  layers_to (more node nodes) (zero ∷ next ∷ rest) = layers_in node (next ∷ rest)
+  layers_to (more node nodes) (suc index ∷ rest) = layers_to nodes (index ∷ rest)

@@ -3,16 +3,17 @@ ghost use Rattle.std.specs.Prelude.{◌≡◌, ◌≤◌, ℕ, suc, List, [], �
 ghost use Rattle.item_definitions.specs.Item.{Item, Attributes, character, items_of};
 ghost use Rattle.item_definitions.specs.Position.{IsIn};
 ghost use Rattle.document_definitions.specs.Document.{Document};
+ghost use Rattle.document_definitions.specs.Selection.{same_position};
 ghost use Rattle.view_definitions.specs.Node.{content, nodes_of};
 ghost use Rattle.view_definitions.specs.Row.{Entry, pieces_of, nest};
 ghost use Rattle.converter_definitions.specs.Gives.{Conversion};
-ghost use Rattle.downcast_definitions.specs.Scene.{Numbers, Scene, has_caret};
+ghost use Rattle.downcast_definitions.specs.Scene.{Numbers, Scene, Caret, has_caret};
 ghost use Rattle.downcast_definitions.specs.Rows.{row_of, numbered_downcast, downcast};
 ghost use Rattle.downcast_definitions.specs.Seen.{mark_at, boundary_place, seen};
 ghost use Rattle.downcast_definitions.specs.Meant.{meant};
 ghost use Rattle.downcast_definitions.specs.Shown.{HaveShapes, HasShapes, IsShown};
 ghost use Rattle.downcast_definitions.specs.Among.{gap_among};
-ghost use Rattle.downcast_definitions.specs.Rule.{content_nodes, item_before, IsNoCharacter, IsBehindCharacter, IsBeforeCharacter, text_before, text_behind, kind_at, kind_of, caret_number};
+ghost use Rattle.downcast_definitions.specs.Rule.{content_nodes, item_before, IsNoCharacter, IsBehindCharacter, IsBeforeCharacter, text_before, text_behind, kind_at, kind_of, layers_to, caret_number};
 
 /// The place of the view where a position is seen means that position, if the position is in no element without a slot and each element of the
 /// document stands as a shape. (After `Mapper` of CKEditor 5, whose `toViewPosition` and `toModelPosition` are inverse.)
@@ -48,10 +49,15 @@ pub fn seen_by_the_rule()
     ensures mark { (row : List Entry) (start end : ℕ) (caret_here : Bool) → nest (mark_at row start end caret_here).row ≡ nest row }
 {}
 
-/// Where the caret stands, its position is seen in the list of nodes that holds the caret: in a text behind a character where a character stands
-/// directly before the caret in that list, else at the start of a text where one stands directly behind it there, else in no text.
-pub fn caret_seen_by_its_list()
-    ensures { (scene : Scene) (parent path : List ℕ) (list : List Item) (offset : ℕ)
+/// Where the caret stands, its position is seen in the list of nodes that holds the caret: the attribute elements on the way there are those of the
+/// caret's layers. It is seen in a text behind a character where a character stands directly before the caret in that list, else at the start of a text
+/// where one stands directly behind it there, else in no text.
+pub fn caret_seen_in_its_list()
+    ensures layers { (scene : Scene) (parent path : List ℕ) (list : List Item) (offset : ℕ) (here : Caret)
+        → HaveShapes scene.conversion parent 0 (items_of list) → offset ≤ length list
+        → scene.caret ≡ Some here → same_position here.at (path ++ offset ∷ []) ≡ true
+        → layers_to (nodes_of (content_nodes scene parent path list)) (boundary_place scene parent path list offset) ≡ Some here.layers }
+    ensures text { (scene : Scene) (parent path : List ℕ) (list : List Item) (offset : ℕ)
         → HaveShapes scene.conversion parent 0 (items_of list) → offset ≤ length list → has_caret scene.caret (path ++ offset ∷ []) ≡ true
         → kind_at (nodes_of (content_nodes scene parent path list)) (boundary_place scene parent path list offset)
         ≡ kind_of (text_before false (pieces_of (row_of scene parent path list)) (caret_number scene path offset))
