@@ -20,3 +20,4 @@ pub mod Found
 pub mod Characters
 pub mod Rule
 pub mod CaretLayers
+pub mod Parents

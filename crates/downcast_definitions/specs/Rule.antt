@@ -1,8 +1,9 @@
 -- The rule by which positions are seen, in its words: what stands before and behind a boundary, in what text its place is, and whether the place is
 -- behind a character of it.
-use Rattle.std.specs.Prelude.{◌≡◌, ℕ, ◌+◌, ◌-◌, zero, suc, nat_lt, List, [], ◌∷◌, ◌++◌, length, Bool, true, false, Option, Some, None, option_map, slice_get, if◌then◌else◌}
-use Rattle.item_definitions.specs.Item.{Item}
+use Rattle.std.specs.Prelude.{◌≡◌, ℕ, ◌+◌, ◌-◌, zero, suc, nat_lt, List, [], ◌∷◌, ◌++◌, length, Bool, true, false, Option, Some, None, option_map, slice_get, if◌then◌else◌, codes}
+use Rattle.item_definitions.specs.Item.{Item, list_of}
 use Rattle.item_definitions.specs.Item as items
+use Rattle.document_definitions.specs.Document.{Document}
 use Rattle.view_definitions.specs.Node.{ViewNode, ViewNodes, text, element, none, more, nodes_of}
 use Rattle.view_definitions.specs.Layer.{Layer, layer_of}
 use Rattle.view_definitions.specs.Place.{node_at}
@@ -127,3 +128,21 @@ abbrev mutual
   layers_to (more node nodes) (zero ∷ []) = Some []
   layers_to (more node nodes) (zero ∷ next ∷ rest) = layers_in node (next ∷ rest)
   layers_to (more node nodes) (suc index ∷ rest) = layers_to nodes (index ∷ rest)
+
+-- ---- the parents of positions
+
+-- what an item is the parent by: an element's name and items
+abbrev pub in_parent : (List ℕ → List Item → Option (List ℕ × List Item)) → Option Item → Option (List ℕ × List Item)
+in_parent inner None = None
+in_parent inner (Some (items.character scalar attributes)) = None
+in_parent inner (Some (items.element id name attributes children)) = inner name (list_of children)
+
+-- the name and the items of the parent of a position in these items, whose own parent has this name: None where no element is there
+abbrev pub parent_in : List ℕ → List Item → List ℕ → Option (List ℕ × List Item)
+parent_in name list [] = None
+parent_in name list (offset ∷ []) = Some (name, list)
+parent_in name list (index ∷ next ∷ rest) = in_parent (λ inner children. parent_in inner children (next ∷ rest)) (slice_get list index)
+
+-- the name and the items of the parent of a position of a document
+abbrev pub parent_at : Document → List ℕ → Option (List ℕ × List Item)
+parent_at document position = parent_in (codes "$root") document.items position

@@ -1,19 +1,20 @@
 //! What holds of every document: each function is a law, which its clauses state.
 ghost use Rattle.std.specs.Prelude.{◌≡◌, ◌≤◌, ℕ, suc, List, [], ◌∷◌, ◌++◌, length, Bool, true, false, Some, slice_get};
 ghost use Rattle.item_definitions.specs.Item.{Item, Attributes, character, items_of};
+ghost use Rattle.item_definitions.specs.Children.{parent_of, offset_of};
 ghost use Rattle.item_definitions.specs.Position.{IsIn};
 ghost use Rattle.document_definitions.specs.Document.{Document};
 ghost use Rattle.document_definitions.specs.Selection.{same_position};
 ghost use Rattle.view_definitions.specs.Node.{content, nodes_of};
 ghost use Rattle.view_definitions.specs.Row.{Entry, pieces_of, nest};
 ghost use Rattle.converter_definitions.specs.Gives.{Conversion};
-ghost use Rattle.downcast_definitions.specs.Scene.{Numbers, Scene, Caret, has_caret};
+ghost use Rattle.downcast_definitions.specs.Scene.{Numbers, Scene, Caret, has_caret, scene_of};
 ghost use Rattle.downcast_definitions.specs.Rows.{row_of, numbered_downcast, downcast};
-ghost use Rattle.downcast_definitions.specs.Seen.{mark_at, boundary_place, seen};
+ghost use Rattle.downcast_definitions.specs.Seen.{mark_at, boundary_place, content_place, seen};
 ghost use Rattle.downcast_definitions.specs.Meant.{meant};
 ghost use Rattle.downcast_definitions.specs.Shown.{HaveShapes, HasShapes, IsShown};
 ghost use Rattle.downcast_definitions.specs.Among.{gap_among};
-ghost use Rattle.downcast_definitions.specs.Rule.{content_nodes, item_before, IsNoCharacter, IsBehindCharacter, IsBeforeCharacter, text_before, text_behind, kind_at, kind_of, layers_to, caret_number};
+ghost use Rattle.downcast_definitions.specs.Rule.{content_nodes, item_before, IsNoCharacter, IsBehindCharacter, IsBeforeCharacter, text_before, text_behind, kind_at, kind_of, layers_to, caret_number, parent_at};
 
 /// The place of the view where a position is seen means that position, if the position is in no element without a slot and each element of the
 /// document stands as a shape. (After `Mapper` of CKEditor 5, whose `toViewPosition` and `toModelPosition` are inverse.)
@@ -62,4 +63,13 @@ pub fn caret_seen_in_its_list()
         → kind_at (nodes_of (content_nodes scene parent path list)) (boundary_place scene parent path list offset)
         ≡ kind_of (text_before false (pieces_of (row_of scene parent path list)) (caret_number scene path offset))
         (text_behind (pieces_of (row_of scene parent path list)) (caret_number scene path offset)) }
+{}
+
+/// A position of a document is seen in the content of its own parent where its boundary is, and the parent's elements stand as shapes too: so each
+/// position of the root and of each element is seen there by the rule.
+pub fn seen_in_its_parent()
+    ensures { (conversion : Conversion) (document : Document) (position name : List ℕ) (list : List Item)
+        → HasShapes conversion document → parent_at document position ≡ Some (name, list)
+        → HaveShapes conversion name 0 (items_of list)
+        × (content_place conversion document position ≡ boundary_place (scene_of conversion document) name (parent_of position) list (offset_of position)) }
 {}
