@@ -21,7 +21,7 @@ IsSeenIn scene path position place name list =
 in-item : (scene : Scene) (parent path : List ℕ) (list : List Item) (index next : ℕ) (rest name : List ℕ) (inner : List Item) (of : Option Item) → HaveShapes scene.conversion parent 0 (items_of list)
     → slice_get list index ≡ of → in_parent (λ own children. parent_in own children (next ∷ rest)) of ≡ Some (name, inner)
     → ((own : List ℕ) (children : List Item) → HaveShapes scene.conversion own 0 (items_of children) → parent_in own children (next ∷ rest) ≡ Some (name, inner)
-      → IsSeenIn scene (path ++ index ∷ []) (next ∷ rest) (place_in scene own (path ++ index ∷ []) children (next ∷ rest)) name inner)
+    → IsSeenIn scene (path ++ index ∷ []) (next ∷ rest) (place_in scene own (path ++ index ∷ []) children (next ∷ rest)) name inner)
     → IsSeenIn scene path (index ∷ next ∷ rest) (in_children (λ own children. place_in scene own (path ++ index ∷ []) children (next ∷ rest)) of) name inner
 in-item scene parent path list index next rest name inner None s f e ih = cc
 in-item scene parent path list index next rest name inner (Some (items.character scalar attributes)) s f e ih = cc
