@@ -21,13 +21,13 @@ use Rattle.downcast_definitions.specs.Place.{as_place}
 use Rattle.downcast_definitions.specs.Seen.{entries_before, of_character, character_before, character_layers_at, between, mark_at, place_of, elements_before, boundary_place}
 use Rattle.downcast_definitions.specs.Shown.{HasShape, HaveShapes}
 use Rattle.downcast_definitions.proofs.Entries.{AllStand, items_in, contents_of, items-append, get-front, get-rest, take-rest}
-use Rattle.downcast_definitions.proofs.Items.{Around, around, boundary-quiet, entry-stands, row-stands, shape-at}
+use Rattle.downcast_definitions.proofs.Items.{contents-append, Around, around, boundary-quiet, entry-stands, row-stands, shape-at}
 use Rattle.downcast_definitions.specs.Among.{item_among, is_character, seen_among}
 use Rattle.downcast_definitions.specs.Rule.{IsNoCharacter}
 use Rattle.downcast_definitions.proofs.Apart.{IsNode, NodeBefore}
 use Rattle.downcast_definitions.proofs.Fits.{IsElement, ElementNext, Between}
 use Rattle.downcast_definitions.proofs.ShownBoundaries.{shown-behind, shown-before, shown-between}
-use Rattle.downcast_definitions.proofs.RowItems.{contents-append, item-element, item-none}
+use Rattle.downcast_definitions.proofs.RowItems.{item-element, item-none}
 
 -- ---- the entries before a boundary and behind it
 

@@ -1,5 +1,5 @@
 -- Where a position of a document is seen in the content of its own parent.
-use Rattle.std.proofs.Common.{◌≡◌, ℕ, ◌+◌, List, [], ◌∷◌, ◌++◌, Option, Some, None, refl, sym, ap, ◌∙◌, subst, append_assoc, append-nil, arith}
+use Rattle.std.proofs.Common.{◌≡◌, ℕ, List, [], ◌∷◌, ◌++◌, Option, Some, None, refl, sym, ap, ◌∙◌, subst, append_assoc, append-nil}
 use Rattle.std.specs.Prelude.{slice_get, codes}
 use Rattle.item_definitions.specs.Item.{Item, items_of, list_of}
 use Rattle.item_definitions.specs.Item as items

@@ -1,6 +1,5 @@
 -- Which item stands among the nodes of a row.
 use Rattle.std.proofs.Common.{◌≡◌, ℕ, zero, suc, ◌+◌, ◌-◌, ◌<◌, ◌≤◌, List, [], ◌∷◌, ◌++◌, length, Bool, true, false, Option, Some, None, refl, sym, ap, ◌∙◌, subst, append-nil, arith}
-use Rattle.std.proofs.lemmas.List.{map-append}
 use Rattle.std.specs.Prelude.{slice_get, nat_lt, option_map, if◌then◌else◌}
 use Rattle.item_definitions.specs.Item.{Item, Items, items_of}
 use Rattle.item_definitions.specs.Item as items
@@ -13,7 +12,7 @@ use Rattle.downcast_definitions.specs.Meant.{model_length, inner_length}
 use Rattle.downcast_definitions.specs.Seen.{elements_before}
 use Rattle.downcast_definitions.specs.Shown.{HaveShapes}
 use Rattle.downcast_definitions.proofs.Entries.{may_stand, AllStand, counted, items_in, contents, contents_of, contents-row, stand-front, stand-rest, leaf-counts, item-counts, shown-counts}
-use Rattle.downcast_definitions.proofs.Items.{boundary-quiet, row-stands}
+use Rattle.downcast_definitions.proofs.Items.{contents-append, boundary-quiet, entry-counts, row-stands}
 use Rattle.downcast_definitions.proofs.Tests.{is_below, below, not_below, above}
 use Rattle.downcast_definitions.specs.Among.{by_around, item_in, item_among, is_character}
 
@@ -184,9 +183,6 @@ item-of-row row number s =
 
 -- ---- in the row of a parent
 
-pub contents-append : (row other : List Entry) → contents_of (row ++ other) ≡ contents_of row ++ contents_of other
-contents-append row other = map-append (λ (entry : Entry). entry.content) row other
-
 nth-here : (content : Content) (rest : List Content) → counted content ≡ 1 → nth_item (content ∷ rest) 0 ≡ Some content
 nth-here (leaf node) rest e = cc
 nth-here (item node) rest e = refl
@@ -201,10 +197,6 @@ nth-later caret rest number e = cc
 
 quiet-none : (all : List Content) (number : ℕ) → items_in all ≡ 0 → nth_item all number ≡ None
 quiet-none all number e = ap (λ list. nth_item list number) (sym (append-nil all)) ∙ nth-rest all [] number number (omega (arith, e))
-
-entry-counts : (scene : Scene) (parent path : List ℕ) (before : ℕ) (of : Item) → counted (entry_of scene parent path before of).content ≡ 1
-entry-counts scene parent path before (items.character scalar attributes) = refl
-entry-counts scene parent path before (items.element id name attributes children) = refl
 
 -- the items of a row are the entries of the parent's items
 pub row-items : (scene : Scene) (parent path : List ℕ) (list : List Item) (from before index at : ℕ) → at ≡ from + index
@@ -247,11 +239,6 @@ pub item-element : (scene : Scene) (parent path : List ℕ) (list : List Item) (
     → item_among (nodes_of (nest (row_of scene parent path list))) index
     ≡ Some (element_node (scene.numbers id) (shape_at scene.conversion parent (elements_before list index) name attributes) (inner_row scene name (path ++ index ∷ []) 0 0 children))
 item-element scene parent path list index id name attributes children s e = item-there scene parent path list index (Some (items.element id name attributes children)) s e
-
-pub item-character : (scene : Scene) (parent path : List ℕ) (list : List Item) (index scalar : ℕ) (attributes : items.Attributes)
-    → HaveShapes scene.conversion parent 0 (items_of list) → slice_get list index ≡ Some (items.character scalar attributes)
-    → is_character (item_among (nodes_of (nest (row_of scene parent path list))) index) ≡ true
-item-character scene parent path list index scalar attributes s e = item-there scene parent path list index (Some (items.character scalar attributes)) s e
 
 pub item-none : (scene : Scene) (parent path : List ℕ) (list : List Item) (index : ℕ) → HaveShapes scene.conversion parent 0 (items_of list) → slice_get list index ≡ None
     → item_among (nodes_of (nest (row_of scene parent path list))) index ≡ None

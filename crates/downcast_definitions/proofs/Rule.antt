@@ -19,10 +19,9 @@ use Rattle.downcast_definitions.specs.Among.{place_among, item_among, gap_among,
 use Rattle.downcast_definitions.specs.Rule.{content_nodes, item_before, IsNoCharacter, IsCharacterAt, IsBehindCharacter, IsBeforeCharacter, text_before, text_behind, kind_at, kind_of, caret_number}
 use Rattle.downcast_definitions.proofs.Marks.{between-nest}
 use Rattle.downcast_definitions.proofs.Entries.{AllStand, contents_of, contents-row, get-rest}
-use Rattle.downcast_definitions.proofs.Items.{around, boundary-caret, row-stands}
+use Rattle.downcast_definitions.proofs.Items.{contents-append, around, boundary-caret, row-stands}
 use Rattle.downcast_definitions.proofs.Boundaries.{CaretLast}
 use Rattle.downcast_definitions.proofs.PlaceKinds.{mark-kind}
-use Rattle.downcast_definitions.proofs.RowItems.{contents-append}
 use Rattle.downcast_definitions.proofs.Found.{boundary-shown, no-character}
 use Rattle.downcast_definitions.proofs.Characters.{Placed, placed, scalar-there}
 

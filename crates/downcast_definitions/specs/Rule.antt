@@ -85,6 +85,7 @@ text_kind (index ∷ []) = Some (nat_lt 0 index)
 text_kind (index ∷ next ∷ rest) = None
 
 abbrev mutual
+  -- whether a place in a node is in a text, behind a character or at its start
   pub kind_in : ViewNode → List ℕ → Option Bool
   kind_in (text scalars) place = text_kind place
   kind_in (element head children) place = by_around head.kind (kind_at children place) None

@@ -57,6 +57,7 @@ abbrev mutual
   plain_node (text scalars) = text scalars
   plain_node (element head children) = element (plain_head head) (plain_nodes children)
 
+  -- the same nodes without the numbers and counts in them
   pub plain_nodes : ViewNodes → ViewNodes
   plain_nodes none = none
   plain_nodes (more node nodes) = more (plain_node node) (plain_nodes nodes)
@@ -71,6 +72,7 @@ abbrev mutual
   uncounted_node (text scalars) = text scalars
   uncounted_node (element head children) = element (record head { changes = 0 }) (uncounted_nodes children)
 
+  -- the same nodes without the counts in them
   pub uncounted_nodes : ViewNodes → ViewNodes
   uncounted_nodes none = none
   uncounted_nodes (more node nodes) = more (uncounted_node node) (uncounted_nodes nodes)
@@ -85,6 +87,7 @@ abbrev mutual
   node_depth (text scalars) = 1
   node_depth (element head children) = 1 + inner_depth children
 
+  -- from the deepest of some children down
   pub inner_depth : ViewNodes → ℕ
   inner_depth none = 0
   inner_depth (more node nodes) = max (node_depth node) (inner_depth nodes)

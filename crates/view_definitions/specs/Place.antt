@@ -79,10 +79,12 @@ abbrev mutual
   changes_in number (element head children) =
       if option_eq nat_eq head.number (Some number) then Some head.changes else changes_inner number children
 
+  -- the count of the first one among some children
   pub changes_inner : ℕ → ViewNodes → Option ℕ
   changes_inner number none = None
   changes_inner number (more node nodes) = option_or (changes_in number node) (changes_inner number nodes)
 
+-- the count of changes of the first element with this number among nodes, in document order: None where none has it
 abbrev pub changes_of : ℕ → List ViewNode → Option ℕ
 changes_of number [] = None
 changes_of number (node ∷ nodes) = option_or (changes_in number node) (changes_of number nodes)
@@ -93,10 +95,12 @@ abbrev mutual
   numbers_in (text scalars) = []
   numbers_in (element head children) = option_to_list head.number ++ numbers_inner children
 
+  -- the numbers among some children
   pub numbers_inner : ViewNodes → List ℕ
   numbers_inner none = []
   numbers_inner (more node nodes) = numbers_in node ++ numbers_inner nodes
 
+-- the numbers of the elements among nodes, in document order
 abbrev pub numbers_of : List ViewNode → List ℕ
 numbers_of [] = []
 numbers_of (node ∷ nodes) = numbers_in node ++ numbers_of nodes
