@@ -31,7 +31,7 @@ use Rattle.downcast_definitions.proofs.Boundaries.{CaretLast, boundary-means}
 abbrev Quiet : List Entry → Type 0
 Quiet row = AllStand (contents_of row) × (items_in (contents_of row) ≡ 0)
 
-contents-append : (row other : List Entry) → contents_of (row ++ other) ≡ contents_of row ++ contents_of other
+pub contents-append : (row other : List Entry) → contents_of (row ++ other) ≡ contents_of row ++ contents_of other
 contents-append row other = map-append (λ (entry : Entry). entry.content) row other
 
 quiet-append : (row other : List Entry) → Quiet row → Quiet other → Quiet (row ++ other)
@@ -110,7 +110,7 @@ entry-stands scene parent path before (items.element id name attributes children
     let form = (shape_at scene.conversion parent before name attributes).form in
     outermost-item (scene.numbers id) (nest (inner_row scene name path 0 0 children)) form (shape-outermost form h.0)
 
-entry-counts : (scene : Scene) (parent path : List ℕ) (before : ℕ) (of : Item) → counted (entry_of scene parent path before of).content ≡ 1
+pub entry-counts : (scene : Scene) (parent path : List ℕ) (before : ℕ) (of : Item) → counted (entry_of scene parent path before of).content ≡ 1
 entry-counts scene parent path before (items.character scalar attributes) = refl
 entry-counts scene parent path before (items.element id name attributes children) = refl
 

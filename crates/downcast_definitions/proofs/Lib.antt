@@ -7,3 +7,17 @@ pub mod Slots
 pub mod Items
 pub mod Inverse
 pub mod Numbering
+pub mod Marked
+pub mod PlaceKinds
+pub mod TextPlaces
+pub mod SeenTexts
+pub mod Gaps
+pub mod Apart
+pub mod Fits
+pub mod ShownBoundaries
+pub mod RowItems
+pub mod Found
+pub mod Characters
+pub mod Rule
+pub mod CaretLayers
+pub mod Parents

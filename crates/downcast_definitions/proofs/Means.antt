@@ -42,12 +42,12 @@ reads-node inners reads offset head children nodes count (Some len) h =
     h.reading at (suc (suc index)) rest (omega (arith, k))
     ∙ ap (λ o. meant_in inners (o + model_length (element head children)) (nodes_of nodes) (index ∷ rest)) e
 
-character-joins : (scalar : ℕ) (nodes : List ViewNode) → character_before scalar nodes ≡ join_node (text (scalar ∷ [])) nodes
+pub character-joins : (scalar : ℕ) (nodes : List ViewNode) → character_before scalar nodes ≡ join_node (text (scalar ∷ [])) nodes
 character-joins scalar [] = refl
 character-joins scalar (text scalars ∷ nodes) = refl
 character-joins scalar (element head children ∷ nodes) = refl
 
-character-joins-behind : (scalars : List ℕ) (scalar : ℕ) (nodes : List ViewNode) → join_node (text scalars) (character_before scalar nodes) ≡ join_node (text (scalars ++ scalar ∷ [])) nodes
+pub character-joins-behind : (scalars : List ℕ) (scalar : ℕ) (nodes : List ViewNode) → join_node (text scalars) (character_before scalar nodes) ≡ join_node (text (scalars ++ scalar ∷ [])) nodes
 character-joins-behind scalars scalar [] = refl
 character-joins-behind scalars scalar (text others ∷ nodes) = ap (λ all. text all ∷ nodes) (sym (append_assoc scalars (scalar ∷ []) others))
 character-joins-behind scalars scalar (element head children ∷ nodes) = refl
@@ -184,10 +184,10 @@ node-base inners reads offset (element head children) nodes count (Some len) ind
     ∙ item-inside inners (h.before + length h.scalars) head.kind _ _ e
     ∙ ap (λ n. in_item inners n (index ∷ rest)) o
 
-not_zero : (n : ℕ) → (suc n == 0) ≡ false
+pub not_zero : (n : ℕ) → (suc n == 0) ≡ false
 not_zero n = grind (arith, nat_tests)
 
-later : (n : ℕ) (here : List ℕ) (rest : ℕ → List ℕ) → (if suc n == 0 then here else rest (suc n - 1)) ≡ rest n
+pub later : (n : ℕ) (here : List ℕ) (rest : ℕ → List ℕ) → (if suc n == 0 then here else rest (suc n - 1)) ≡ rest n
 later n here rest = ap (λ b. if b then here else rest (suc n - 1)) (not_zero n) ∙ ap rest (omega arith)
 
 -- the entry that is looked for, what it is found as, what the place goes on with, and what it should mean by the number of items before it

@@ -1,7 +1,10 @@
 pub mod Scene
 pub mod Rows
+pub mod Numbered
 pub mod Place
 pub mod Seen
+pub mod Among
+pub mod Rule
 pub mod Shown
 pub mod Meant
 pub mod Sample

@@ -10,6 +10,7 @@ use Rattle.converter_definitions.specs.Gives.{Conversion}
 use Rattle.downcast_definitions.specs.Scene.{Scene, scene_of}
 use Rattle.downcast_definitions.specs.Rows.{elements_in, row_of, inner_row, shape_at}
 
+-- how many items an element of this kind shows, in which so many are shown. (After `getModelLength` of CKEditor 5's `Mapper`.)
 abbrev pub length_by_kind : Kind → ℕ → ℕ
 length_by_kind container inner = 1
 length_by_kind (attribute priority id) inner = inner
@@ -23,6 +24,7 @@ abbrev mutual
   model_length (text scalars) = length scalars
   model_length (element head children) = length_by_kind head.kind (inner_length children)
 
+  -- how many items the nodes of a list show
   pub inner_length : ViewNodes → ℕ
   inner_length none = 0
   inner_length (more node nodes) = model_length node + inner_length nodes
@@ -38,11 +40,13 @@ by_kind (attribute priority id) around inside = around
 by_kind empty around inside = inside
 by_kind ui around inside = None
 
+-- what a place in a text of this length means, before which so many items are shown: None where the place is in no text, or behind its end
 abbrev pub in_text : ℕ → ℕ → List ℕ → Option (List ℕ)
 in_text offset scalars [] = None
 in_text offset scalars (index ∷ []) = if nat_le index scalars then Some ((offset + index) ∷ []) else None
 in_text offset scalars (index ∷ next ∷ rest) = None
 
+-- what a place in the node of the item at an offset means
 abbrev pub in_item : Inners → ℕ → List ℕ → Option (List ℕ)
 in_item inners offset place = option_map (λ position. offset ∷ position) (option_and_then (λ inner. inner place) (slice_get inners offset))
 
@@ -78,6 +82,7 @@ abbrev mutual
       option_and_then (meant_in (inners_of scene name path 0 0 children) 0 (nodes_of (nest (inner_row scene name path 0 0 children))))
       (option_and_then (λ slot. out_of_slot slot place) (slot_in (shape_at scene.conversion parent before name attributes).form))
 
+  -- the same for each of these items, the first of which has this offset
   pub inners_of : Scene → List ℕ → List ℕ → ℕ → ℕ → Items → Inners
   inners_of scene parent path offset before items.none = []
   inners_of scene parent path offset before (items.more item rest) =

@@ -8,6 +8,7 @@ abbrev mutual
   piece_size (bare content) = 1
   piece_size (wrapped layer inner) = pieces_size inner
 
+  -- how many entries some pieces are made of
   pub pieces_size : Pieces → ℕ
   pieces_size nothing = 0
   pieces_size (first piece pieces) = piece_size piece + pieces_size pieces
@@ -17,12 +18,15 @@ pub record Passed : Type 0 where
   pub nodes : ℕ
   pub in_text : Option ℕ
 
+-- at the beginning of a list
 abbrev pub none_passed : Passed
 none_passed = record { nodes = 0; in_text = None }
 
+-- behind a node that is no text
 abbrev pub node_more : Passed → Passed
 node_more passed = record { nodes = passed.nodes + 1; in_text = None }
 
+-- behind a character, with which a text goes on or begins
 abbrev pub character_more : ℕ → Option ℕ → Passed
 character_more nodes None = record { nodes = nodes + 1; in_text = Some 1 }
 character_more nodes (Some length) = record { nodes = nodes; in_text = Some (length + 1) }
@@ -43,6 +47,7 @@ abbrev mutual
   is_text (bare caret) rest = rest
   is_text (wrapped layer inner) rest = false
 
+  -- whether pieces do
   pub begins_with_text : Pieces → Bool
   begins_with_text nothing = false
   begins_with_text (first piece pieces) = is_text piece (begins_with_text pieces)
@@ -51,6 +56,7 @@ abbrev mutual
 abbrev pub Found : Type 0
 Found = Passed → Bool → List ℕ
 
+-- behind the last character, in its text; else at the start of the text behind; else between the nodes
 abbrev pub in_or_before_text : Passed → Bool → Option ℕ → List ℕ
 in_or_before_text passed behind (Some length) = (passed.nodes - 1) ∷ length ∷ []
 in_or_before_text passed true None = passed.nodes ∷ 0 ∷ []
@@ -66,6 +72,7 @@ abbrev pub as_node : Found
 as_node passed behind = passed.nodes ∷ []
 
 abbrev mutual
+  -- where the entry of this number stands in a piece, or else among the rest
   pub in_piece : Found → Piece → Bool → (ℕ → Passed → List ℕ) → ℕ → Passed → List ℕ
   in_piece found (bare content) behind rest number passed =
       if number == 0 then found passed behind else rest (number - 1) (behind_content content passed)

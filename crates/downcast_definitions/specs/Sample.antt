@@ -14,12 +14,15 @@ use Rattle.view_definitions.specs.Layer.{Layer}
 abbrev pub letters : Attributes → List ℕ → List Item
 letters attributes scalars = map (λ scalar. items.character scalar attributes) scalars
 
+-- the attribute `bold`
 abbrev pub bold : Attributes
 bold = (codes "bold", Truth true) ∷ []
 
+-- the attribute `italic`
 abbrev pub italic : Attributes
 italic = (codes "italic", Truth true) ∷ []
 
+-- both attributes
 abbrev pub both : Attributes
 both = bold ++ italic
 
@@ -31,9 +34,11 @@ holding id name list = items.element id name [] (items_of list)
 abbrev pub paragraph : List Item → Item
 paragraph list = holding 1 (codes "paragraph") list
 
+-- a collapsed selection
 abbrev pub at : List ℕ → Selection
 at position = selected (between position position) false
 
+-- a document of these items
 abbrev pub document : List Item → Markers → Selection → Document
 document list markers selection = record { items = list; markers = markers; selection = selection; next_id = 9 }
 
@@ -58,11 +63,14 @@ made kind name attributes nodes = element (record { kind = kind; name = name; at
 abbrev pub p : List ViewNode → ViewNode
 p nodes = made container (codes "p") [] nodes
 
+-- the layer of `bold`
 abbrev pub strong : Layer
 strong = record { name = codes "strong"; attrs = []; priority = pos 10; id = None }
 
+-- the layer of `italic`
 abbrev pub slanted : Layer
 slanted = record { name = codes "i"; attrs = []; priority = pos 10; id = None }
 
+-- the layer of the marker `comment`
 abbrev pub comment : Layer
 comment = record { name = codes "span"; attrs = (codes "class", codes "comment") ∷ []; priority = pos 10; id = Some (codes "comment") }

@@ -43,6 +43,7 @@ strictly_around position markers = keys_of (filter (λ marker. is_before marker.
 abbrev pub typed_layers : Conversion → Markers → List ℕ → Attributes → List Layer
 typed_layers conversion markers position attributes = character_layers conversion attributes (strictly_around position markers)
 
+-- whether two lists of layers are equal
 abbrev pub same_layers : List Layer → List Layer → Bool
 same_layers = pointwise same_layer
 
@@ -60,6 +61,7 @@ abbrev pub numbered_scene : Numbers → Conversion → Document → Scene
 numbered_scene numbers conversion document =
     record { conversion = conversion; markers = document.markers; caret = caret_of conversion document; numbers = numbers }
 
+-- a document without numbers
 abbrev pub scene_of : Conversion → Document → Scene
 scene_of conversion document = numbered_scene unnumbered conversion document
 
@@ -67,6 +69,7 @@ scene_of conversion document = numbered_scene unnumbered conversion document
 abbrev pub leaf_node : Leaf → ViewNode
 leaf_node view = element (record { kind = ui; name = view.name; attributes = view.attrs; number = None; changes = 0 }) none
 
+-- its entry, without layers
 abbrev pub leaf_entry : Leaf → Entry
 leaf_entry view = record { content = leaf (leaf_node view); layers = [] }
 
@@ -78,6 +81,7 @@ leaves scene test = filter_map (λ marker. if test marker.1 then option_map leaf
 abbrev pub ends_at : List ℕ → Range → Bool
 ends_at position range = same_position range.end position && not (is_collapsed range)
 
+-- whether a range starts at a position
 abbrev pub starts_at : List ℕ → Range → Bool
 starts_at position range = same_position range.start position
 
@@ -86,9 +90,11 @@ abbrev pub has_caret : Option Caret → List ℕ → Bool
 has_caret None position = false
 has_caret (Some here) position = same_position here.at position
 
+-- the entry of the caret, in its layers
 abbrev pub caret_entry : Caret → Entry
 caret_entry here = record { content = caret; layers = here.layers }
 
+-- the entry of the caret, where it stands at a position
 abbrev pub carets : Option Caret → List ℕ → List Entry
 carets None position = []
 carets (Some here) position = if same_position here.at position then caret_entry here ∷ [] else []

@@ -24,6 +24,7 @@ of_character (item node) layers = None
 of_character (character scalar) layers = Some layers
 of_character caret layers = None
 
+-- the layers of the entry of a number, if it is a character
 abbrev pub character_layers_at : List Entry → ℕ → Option (List Layer)
 character_layers_at row number = option_and_then (λ entry. of_character entry.content entry.layers) (slice_get row number)
 
@@ -42,6 +43,7 @@ abbrev pub layers_before : List Entry → ℕ → List Layer
 layers_before row zero = []
 layers_before row (suc number) = layers_at row number
 
+-- the layers of the entry before the one of a number, if it is a character
 abbrev pub character_before : List Entry → ℕ → Option (List Layer)
 character_before row zero = None
 character_before row (suc number) = character_layers_at row number
@@ -67,6 +69,7 @@ abbrev pub mark_at : List Entry → ℕ → ℕ → Bool → Marked
 mark_at row start end true = record { row = row; number = end - 1 }
 mark_at row start end false = between row start end (character_before row start) (character_layers_at row end)
 
+-- where such an entry stands in the nodes that its row nests to
 abbrev pub place_of : Found → Marked → List ℕ
 place_of found mark = in_pieces found (pieces_of mark.row) mark.number none_passed
 
@@ -100,6 +103,7 @@ abbrev pub in_slot : List ℕ → List ℕ → List ℕ → Option (List ℕ) �
 in_slot outside node inner None = outside
 in_slot outside node inner (Some slot) = node ++ into_slot slot inner
 
+-- where a position in the item at an index is seen
 abbrev pub in_element : Scene → List ℕ → List ℕ → List Item → ℕ → (List ℕ → List Item → List ℕ) → Option Item → List ℕ
 in_element scene parent path list index inner None = boundary_place scene parent path list index
 in_element scene parent path list index inner (Some (items.character scalar attributes)) = boundary_place scene parent path list index
@@ -114,6 +118,7 @@ seen_in scene parent path list (offset ∷ []) = boundary_place scene parent pat
 seen_in scene parent path list (index ∷ next ∷ rest) =
     in_element scene parent path list index (λ name inner. seen_in scene name (path ++ index ∷ []) inner (next ∷ rest)) (slice_get list index)
 
+-- in the items of an element; no other item has any
 abbrev pub in_children : (List ℕ → List Item → List ℕ) → Option Item → List ℕ
 in_children inner None = []
 in_children inner (Some (items.character scalar attributes)) = []
@@ -126,6 +131,7 @@ place_in scene parent path list (offset ∷ []) = boundary_place scene parent pa
 place_in scene parent path list (index ∷ next ∷ rest) =
     in_children (λ name inner. place_in scene name (path ++ index ∷ []) inner (next ∷ rest)) (slice_get list index)
 
+-- where a position of a document is seen in the content of its own parent
 abbrev pub content_place : Conversion → Document → List ℕ → List ℕ
 content_place conversion document position = place_in (scene_of conversion document) (codes "$root") [] document.items position
 

@@ -1,12 +1,15 @@
 //! Worked examples, computed: each clause is a row. In a place of the view the first number leads to the paragraph.
 ghost use Rattle.std.specs.Prelude.{◌≡◌, [], ◌∷◌, ◌++◌, true, false, Some, None, codes};
-ghost use Rattle.view_definitions.specs.Node.{container, empty, ui, text};
+ghost use Rattle.view_definitions.specs.Node.{container, empty, ui, text, nodes_of};
 ghost use Rattle.view_definitions.specs.Layer.{in_layer};
 ghost use Rattle.converter_definitions.specs.Sample.{sample, class};
 ghost use Rattle.downcast_definitions.specs.Rows.{downcast};
-ghost use Rattle.downcast_definitions.specs.Seen.{seen};
+ghost use Rattle.downcast_definitions.specs.Scene.{has_caret, caret_of};
+ghost use Rattle.downcast_definitions.specs.Seen.{content_place, seen};
 ghost use Rattle.downcast_definitions.specs.Meant.{meant};
 ghost use Rattle.downcast_definitions.specs.Shown.{HasShapes, IsShown};
+ghost use Rattle.downcast_definitions.specs.Among.{place_among, gap_among};
+ghost use Rattle.downcast_definitions.specs.Rule.{kind_at, layers_to, parent_at};
 ghost use Rattle.downcast_definitions.specs.Sample.{letters, bold, italic, both, holding, paragraph, at, document, one_paragraph, overriding, marker, made, p, strong, slanted, comment};
 
 /// Bold on `bc` and italic on `cd`: the layers nest by their identity texts.
@@ -94,4 +97,21 @@ fn shown()
     ensures shapes { HasShapes sample (one_paragraph (letters [] (codes "a") ++ (holding 2 (codes "checkbox") (letters [] (codes "b")) ∷ [])) []) }
     ensures in_paragraph { IsShown sample (one_paragraph (letters [] (codes "a") ++ (holding 2 (codes "checkbox") (letters [] (codes "b")) ∷ [])) []) (0 ∷ 1 ∷ []) }
     ensures in_checkbox { IsShown sample (one_paragraph (letters [] (codes "a") ++ (holding 2 (codes "checkbox") (letters [] (codes "b")) ∷ [])) []) (0 ∷ 1 ∷ 0 ∷ []) → ⊥ }
+{}
+
+/// What the rule looks at: the parent of a position, whether the caret stands there, and the places among the nodes of the parent's content. Between
+/// two objects it is behind the leaf there, and in the attribute element that goes on across it.
+fn rule()
+    ensures parent { parent_at (one_paragraph (letters [] (codes "ab")) []) (0 ∷ 1 ∷ []) ≡ Some (codes "paragraph", letters [] (codes "ab")) }
+    ensures content { content_place sample (one_paragraph (letters [] (codes "ab")) []) (0 ∷ 1 ∷ []) ≡ 0 ∷ 1 ∷ [] }
+    ensures no_caret { has_caret (caret_of sample (one_paragraph (letters [] (codes "ab")) [])) (0 ∷ 1 ∷ []) ≡ false }
+    ensures caret { has_caret (caret_of sample (overriding (Some true) (letters [] (codes "ab")) [])) (0 ∷ 1 ∷ []) ≡ true }
+    ensures caret_layers { layers_to (nodes_of (text (codes "a") ∷ in_layer strong [] ∷ text (codes "b") ∷ [])) (1 ∷ 0 ∷ []) ≡ Some (strong ∷ []) }
+    ensures no_layers { layers_to (nodes_of (p [] ∷ [])) (0 ∷ 0 ∷ []) ≡ None }
+    ensures behind { place_among 1 (nodes_of (in_layer strong (text (codes "ab") ∷ []) ∷ [])) 0 0 ≡ 0 ∷ 0 ∷ 1 ∷ [] }
+    ensures in_text { kind_at (nodes_of (in_layer strong (text (codes "ab") ∷ []) ∷ [])) (0 ∷ 0 ∷ 1 ∷ []) ≡ Some true }
+    ensures at_start { kind_at (nodes_of (in_layer strong (text (codes "ab") ∷ []) ∷ [])) (0 ∷ 0 ∷ 0 ∷ []) ≡ Some false }
+    ensures in_no_text { kind_at (nodes_of (in_layer strong (text (codes "ab") ∷ []) ∷ [])) (0 ∷ 1 ∷ []) ≡ None }
+    ensures leaf { gap_among (nodes_of (made empty (codes "input") [] [] ∷ made ui (codes "a") [] [] ∷ made empty (codes "input") [] [] ∷ [])) 1 0 ≡ 2 ∷ [] }
+    ensures across { gap_among (nodes_of (in_layer comment (made empty (codes "input") [] [] ∷ made empty (codes "input") [] [] ∷ []) ∷ [])) 1 0 ≡ 0 ∷ 1 ∷ [] }
 {}

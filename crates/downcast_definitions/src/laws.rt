@@ -1,14 +1,20 @@
 //! What holds of every document: each function is a law, which its clauses state.
-ghost use Rattle.std.specs.Prelude.{◌≡◌, ℕ, List, Some};
+ghost use Rattle.std.specs.Prelude.{◌≡◌, ◌≤◌, ℕ, suc, List, [], ◌∷◌, ◌++◌, length, Bool, true, false, Some, slice_get};
+ghost use Rattle.item_definitions.specs.Item.{Item, Attributes, character, items_of};
+ghost use Rattle.item_definitions.specs.Children.{parent_of, offset_of};
 ghost use Rattle.item_definitions.specs.Position.{IsIn};
 ghost use Rattle.document_definitions.specs.Document.{Document};
-ghost use Rattle.view_definitions.specs.Node.{content};
+ghost use Rattle.document_definitions.specs.Selection.{same_position};
+ghost use Rattle.view_definitions.specs.Node.{content, nodes_of};
+ghost use Rattle.view_definitions.specs.Row.{Entry, pieces_of, nest};
 ghost use Rattle.converter_definitions.specs.Gives.{Conversion};
-ghost use Rattle.downcast_definitions.specs.Scene.{Numbers};
-ghost use Rattle.downcast_definitions.specs.Rows.{numbered_downcast, downcast};
-ghost use Rattle.downcast_definitions.specs.Seen.{seen};
+ghost use Rattle.downcast_definitions.specs.Scene.{Numbers, Scene, Caret, has_caret, scene_of};
+ghost use Rattle.downcast_definitions.specs.Rows.{row_of, numbered_downcast, downcast};
+ghost use Rattle.downcast_definitions.specs.Seen.{mark_at, boundary_place, content_place, seen};
 ghost use Rattle.downcast_definitions.specs.Meant.{meant};
-ghost use Rattle.downcast_definitions.specs.Shown.{HasShapes, IsShown};
+ghost use Rattle.downcast_definitions.specs.Shown.{HaveShapes, HasShapes, IsShown};
+ghost use Rattle.downcast_definitions.specs.Among.{gap_among};
+ghost use Rattle.downcast_definitions.specs.Rule.{content_nodes, item_before, IsNoCharacter, IsBehindCharacter, IsBeforeCharacter, text_before, text_behind, kind_at, kind_of, layers_to, caret_number, parent_at};
 
 /// The place of the view where a position is seen means that position, if the position is in no element without a slot and each element of the
 /// document stands as a shape. (After `Mapper` of CKEditor 5, whose `toViewPosition` and `toModelPosition` are inverse.)
@@ -22,4 +28,48 @@ pub fn seen_means_itself()
 pub fn numbers_are_no_content()
     ensures { (numbers : Numbers) (conversion : Conversion) (document : Document)
         → content (numbered_downcast numbers conversion document) ≡ downcast conversion document }
+{}
+
+/// Where a position without the caret is seen, in the content of its parent: behind the character before it, in that character's text, one further
+/// than the character; where the item before it is none, at the start of the text of the character behind it; where that is none either, behind all
+/// nodes that show no item there, in the innermost attribute element that goes on across the position. The entry that finds the place is no node:
+/// with it the row nests to the same nodes.
+pub fn seen_by_the_rule()
+    ensures behind { (scene : Scene) (parent path : List ℕ) (list : List Item) (offset scalar : ℕ) (attributes : Attributes)
+        → HaveShapes scene.conversion parent 0 (items_of list) → has_caret scene.caret (path ++ suc offset ∷ []) ≡ false
+        → slice_get list offset ≡ Some (character scalar attributes)
+        → IsBehindCharacter (content_nodes scene parent path list) offset scalar (boundary_place scene parent path list (suc offset)) }
+    ensures before { (scene : Scene) (parent path : List ℕ) (list : List Item) (offset scalar : ℕ) (attributes : Attributes)
+        → HaveShapes scene.conversion parent 0 (items_of list) → has_caret scene.caret (path ++ offset ∷ []) ≡ false
+        → IsNoCharacter (item_before list offset) → slice_get list offset ≡ Some (character scalar attributes)
+        → IsBeforeCharacter (content_nodes scene parent path list) offset scalar (boundary_place scene parent path list offset) }
+    ensures between { (scene : Scene) (parent path : List ℕ) (list : List Item) (offset : ℕ)
+        → HaveShapes scene.conversion parent 0 (items_of list) → offset ≤ length list → has_caret scene.caret (path ++ offset ∷ []) ≡ false
+        → IsNoCharacter (item_before list offset) → IsNoCharacter (slice_get list offset)
+        → boundary_place scene parent path list offset ≡ gap_among (nodes_of (content_nodes scene parent path list)) offset 0 }
+    ensures mark { (row : List Entry) (start end : ℕ) (caret_here : Bool) → nest (mark_at row start end caret_here).row ≡ nest row }
+{}
+
+/// Where the caret stands, its position is seen in the list of nodes that holds the caret: the attribute elements on the way there are those of the
+/// caret's layers. It is seen in a text behind a character where a character stands directly before the caret in that list, else at the start of a text
+/// where one stands directly behind it there, else in no text.
+pub fn caret_seen_in_its_list()
+    ensures layers { (scene : Scene) (parent path : List ℕ) (list : List Item) (offset : ℕ) (here : Caret)
+        → HaveShapes scene.conversion parent 0 (items_of list) → offset ≤ length list
+        → scene.caret ≡ Some here → same_position here.at (path ++ offset ∷ []) ≡ true
+        → layers_to (nodes_of (content_nodes scene parent path list)) (boundary_place scene parent path list offset) ≡ Some here.layers }
+    ensures text { (scene : Scene) (parent path : List ℕ) (list : List Item) (offset : ℕ)
+        → HaveShapes scene.conversion parent 0 (items_of list) → offset ≤ length list → has_caret scene.caret (path ++ offset ∷ []) ≡ true
+        → kind_at (nodes_of (content_nodes scene parent path list)) (boundary_place scene parent path list offset)
+        ≡ kind_of (text_before false (pieces_of (row_of scene parent path list)) (caret_number scene path offset))
+        (text_behind (pieces_of (row_of scene parent path list)) (caret_number scene path offset)) }
+{}
+
+/// A position of a document is seen in the content of its own parent where its boundary is, and the parent's elements stand as shapes too: so each
+/// position of the root and of each element is seen there by the rule.
+pub fn seen_in_its_parent()
+    ensures { (conversion : Conversion) (document : Document) (position name : List ℕ) (list : List Item)
+        → HasShapes conversion document → parent_at document position ≡ Some (name, list)
+        → HaveShapes conversion name 0 (items_of list)
+        × (content_place conversion document position ≡ boundary_place (scene_of conversion document) name (parent_of position) list (offset_of position)) }
 {}

@@ -66,10 +66,6 @@ texts-before scalars more_scalars [] = refl
 texts-before scalars more_scalars (text last ∷ nodes) = ap (λ joined_text. text joined_text ∷ nodes) (sym (append_assoc scalars more_scalars last))
 texts-before scalars more_scalars (element head children ∷ nodes) = refl
 
--- a first node stays before what is joined behind the second
-pub join-cons : (node next : ViewNode) (rest nodes : List ViewNode) → join (node ∷ next ∷ rest) nodes ≡ node ∷ join (next ∷ rest) nodes
-join-cons node next rest nodes = refl
-
 joined-node-some : (node : ViewNode) (nodes : List ViewNode) (P : List ViewNode → Type 0) → ((x : ViewNode) (xs : List ViewNode) → P (x ∷ xs)) → P (join_node node nodes)
 joined-node-some (text scalars) [] P h = h _ _
 joined-node-some (text scalars) (text more_scalars ∷ nodes) P h = h _ _

@@ -58,6 +58,7 @@ IsBareLeaf (item node) layers = Unit {0}
 IsBareLeaf (character scalar) layers = Unit {0}
 IsBareLeaf caret layers = Unit {0}
 
+-- in a whole row
 abbrev pub HasBareLeaves : List Entry → Type 0
 HasBareLeaves [] = Unit {0}
 HasBareLeaves (entry ∷ row) = IsBareLeaf entry.content entry.layers × HasBareLeaves row

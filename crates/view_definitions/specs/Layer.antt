@@ -9,6 +9,8 @@ use Rattle.std.specs.Cmp.Lexicographic.{slice_cmp}
 use Rattle.ck_base.specs.Entries.{name_cmp}
 use Rattle.view_definitions.specs.Node.{ViewAttributes, Kind, container, attribute, empty, ui, Head, ViewNode, element, nodes_of}
 
+-- what an attribute element is beside its children: name, attributes, priority and, if it has one, id. (After `AttributeElement` of CKEditor 5's
+-- view.)
 pub record Layer : Type 0 where
   pub name : List ℕ
   pub attrs : ViewAttributes
@@ -43,6 +45,7 @@ layer_of_kind None (attribute priority id) name attributes = Some (record { name
 layer_of_kind None empty name attributes = None
 layer_of_kind None ui name attributes = None
 
+-- the layer that an element with this head is
 abbrev pub layer_of : Head → Option Layer
 layer_of head = layer_of_kind head.number head.kind head.name head.attributes
 
@@ -50,5 +53,6 @@ layer_of head = layer_of_kind head.number head.kind head.name head.attributes
 abbrev pub layer_head : Layer → Head
 layer_head layer = record { kind = attribute layer.priority layer.id; name = layer.name; attributes = layer.attrs; number = None; changes = 0 }
 
+-- the attribute element of a layer around these nodes
 abbrev pub in_layer : Layer → List ViewNode → ViewNode
 in_layer layer nodes = element (layer_head layer) (nodes_of nodes)

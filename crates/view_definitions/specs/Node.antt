@@ -57,6 +57,7 @@ abbrev mutual
   plain_node (text scalars) = text scalars
   plain_node (element head children) = element (plain_head head) (plain_nodes children)
 
+  -- the same nodes without the numbers and counts in them
   pub plain_nodes : ViewNodes → ViewNodes
   plain_nodes none = none
   plain_nodes (more node nodes) = more (plain_node node) (plain_nodes nodes)
@@ -66,11 +67,27 @@ abbrev pub content : List ViewNode → List ViewNode
 content nodes = map plain_node nodes
 
 abbrev mutual
+  -- the same node without the counts of changes in it
+  pub uncounted_node : ViewNode → ViewNode
+  uncounted_node (text scalars) = text scalars
+  uncounted_node (element head children) = element (record head { changes = 0 }) (uncounted_nodes children)
+
+  -- the same nodes without the counts in them
+  pub uncounted_nodes : ViewNodes → ViewNodes
+  uncounted_nodes none = none
+  uncounted_nodes (more node nodes) = more (uncounted_node node) (uncounted_nodes nodes)
+
+-- a list of nodes without the counts of changes: its content and its numbers
+abbrev pub uncounted : List ViewNode → List ViewNode
+uncounted nodes = map uncounted_node nodes
+
+abbrev mutual
   -- how many levels of nodes there are from a node down
   pub node_depth : ViewNode → ℕ
   node_depth (text scalars) = 1
   node_depth (element head children) = 1 + inner_depth children
 
+  -- from the deepest of some children down
   pub inner_depth : ViewNodes → ℕ
   inner_depth none = 0
   inner_depth (more node nodes) = max (node_depth node) (inner_depth nodes)

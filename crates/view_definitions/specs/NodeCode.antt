@@ -25,6 +25,7 @@ kind_back (attribute priority id) = refl
 kind_back empty = refl
 kind_back ui = refl
 
+-- a code for kinds
 abbrev pub coded_kind : Coded Kind
 coded_kind = code_by KindParts (coded⊎ (coded_option coded_bool) (coded× coded_ℤ (coded_option (coded_list coded_ℕ)))) kind_parts kind_from kind_back
 
@@ -37,6 +38,7 @@ head_parts head = (head.kind, (head.name, (head.attributes, (head.number, head.c
 abbrev head_from : HeadParts → Head
 head_from parts = record { kind = parts.0; name = parts.1.0; attributes = parts.1.1.0; number = parts.1.1.1.0; changes = parts.1.1.1.1 }
 
+-- a code for heads
 abbrev pub coded_head : Coded Head
 coded_head =
     code_by HeadParts (coded× coded_kind (coded× (coded_list coded_ℕ) (coded× (coded_list (coded× (coded_list coded_ℕ) (coded_list coded_ℕ))) (coded× (coded_option coded_ℕ) coded_ℕ))))
@@ -97,6 +99,7 @@ nodes_back nodes =
 abbrev coded_tokens : Coded (List Token)
 coded_tokens = coded_list (coded⊎ (coded_list coded_ℕ) (coded⊎ coded_head coded_ℕ))
 
+-- a code for lists of nodes
 abbrev pub coded_nodes : Coded (List ViewNode)
 coded_nodes = code_by (List Token) coded_tokens (λ nodes. inner_tokens (nodes_of nodes) []) (λ tokens. list_of (read tokens).0) nodes_back
 
@@ -108,5 +111,6 @@ first_of (more node nodes) = node
 pub node_back : (node : ViewNode) → first_of (read (node_tokens node [])).0 ≡ node
 node_back node = ap (λ (r : ViewNodes × List ViewNodes). first_of r.0) (read-node node [])
 
+-- a code for nodes
 abbrev pub coded_node : Coded ViewNode
 coded_node = code_by (List Token) coded_tokens (λ node. node_tokens node []) (λ tokens. first_of (read tokens).0) node_back

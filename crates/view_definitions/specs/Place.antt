@@ -29,6 +29,16 @@ abbrev pub put_at : List ℕ → List ViewNode → List ViewNode → List ViewNo
 put_at [] new nodes = new
 put_at (index ∷ path) new nodes = at_index index (with_inner (put_at path new)) nodes
 
+-- what is found in an element's children, else its own number; None for a text
+abbrev pub nearest_in : (List ViewNode → Option ℕ) → ViewNode → Option ℕ
+nearest_in below (text scalars) = None
+nearest_in below (element head children) = option_or (below (list_of children)) head.number
+
+-- the number of the innermost element with a number on a path: None where none has one
+abbrev pub nearest : List ℕ → List ViewNode → Option ℕ
+nearest [] nodes = None
+nearest (index ∷ path) nodes = option_and_then (nearest_in (nearest path)) (slice_get nodes index)
+
 -- whether an element has a number, or this holds of its children
 abbrev pub numbered_or : (List ViewNode → Bool) → ViewNode → Bool
 numbered_or below (text scalars) = false
@@ -69,10 +79,12 @@ abbrev mutual
   changes_in number (element head children) =
       if option_eq nat_eq head.number (Some number) then Some head.changes else changes_inner number children
 
+  -- the count of the first one among some children
   pub changes_inner : ℕ → ViewNodes → Option ℕ
   changes_inner number none = None
   changes_inner number (more node nodes) = option_or (changes_in number node) (changes_inner number nodes)
 
+-- the count of changes of the first element with this number among nodes, in document order: None where none has it
 abbrev pub changes_of : ℕ → List ViewNode → Option ℕ
 changes_of number [] = None
 changes_of number (node ∷ nodes) = option_or (changes_in number node) (changes_of number nodes)
@@ -83,10 +95,12 @@ abbrev mutual
   numbers_in (text scalars) = []
   numbers_in (element head children) = option_to_list head.number ++ numbers_inner children
 
+  -- the numbers among some children
   pub numbers_inner : ViewNodes → List ℕ
   numbers_inner none = []
   numbers_inner (more node nodes) = numbers_in node ++ numbers_inner nodes
 
+-- the numbers of the elements among nodes, in document order
 abbrev pub numbers_of : List ViewNode → List ℕ
 numbers_of [] = []
 numbers_of (node ∷ nodes) = numbers_in node ++ numbers_of nodes

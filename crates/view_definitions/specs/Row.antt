@@ -21,6 +21,7 @@ mutual
     bare : Content → Piece
     wrapped : Layer → Pieces → Piece
 
+  -- parts one behind the other
   pub data Pieces : Type 0 where
     nothing : Pieces
     first : Piece → Pieces → Pieces
@@ -54,6 +55,7 @@ content_before (character scalar) nodes = character_before scalar nodes
 content_before caret nodes = nodes
 
 abbrev mutual
+  -- a part before these nodes
   pub piece_before : Piece → List ViewNode → List ViewNode
   piece_before (bare content) nodes = content_before content nodes
   piece_before (wrapped layer inner) nodes = in_layer layer (shown inner) ∷ nodes
@@ -93,6 +95,7 @@ by_first [] entry row = content_before entry.content (nest row)
 by_first (layer ∷ layers) entry row =
     in_layer layer (nest (map within (run_in layer (entry ∷ row)))) ∷ nest (behind_run layer (entry ∷ row))
 
+-- the nodes that a row nests to by the rule
 abbrev pub nest_by_rule : List Entry → List ViewNode
 nest_by_rule [] = []
 nest_by_rule (entry ∷ row) = by_first entry.layers entry row
@@ -103,6 +106,7 @@ both_layers None other = false
 both_layers (Some layer) None = false
 both_layers (Some layer) (Some other) = same_layer layer other
 
+-- whether an element with this head is one with another that it stands before
 abbrev pub joins : Head → Head → Bool
 joins head other = both_layers (layer_of head) (layer_of other)
 
@@ -118,6 +122,7 @@ abbrev mutual
       if joins head other then element head (nodes_of (join_inner children (list_of inner))) ∷ nodes
       else element head children ∷ element other inner ∷ nodes
 
+  -- children before these nodes, joined where they meet
   pub join_inner : ViewNodes → List ViewNode → List ViewNode
   join_inner none nodes = nodes
   join_inner (more node none) nodes = join_node node nodes
@@ -136,12 +141,14 @@ is_leaf_kind (attribute priority id) = false
 is_leaf_kind empty = false
 is_leaf_kind ui = true
 
+-- whether an item of the model may stand as such an element
 abbrev pub is_item_kind : Kind → Bool
 is_item_kind container = true
 is_item_kind (attribute priority id) = false
 is_item_kind empty = true
 is_item_kind ui = false
 
+-- whether a node is an element of a kind that passes a test
 abbrev pub is_element : (Kind → Bool) → ViewNode → Bool
 is_element test (text scalars) = false
 is_element test (element head children) = test head.kind

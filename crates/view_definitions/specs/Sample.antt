@@ -8,9 +8,11 @@ use Rattle.view_definitions.specs.Row.{leaf, item, character, caret, Entry}
 abbrev pub letter_layer : ℕ → Layer
 letter_layer letter = record { name = letter ∷ []; attrs = []; priority = pos 10; id = None }
 
+-- the layer `b`
 abbrev pub bold : Layer
 bold = letter_layer 98
 
+-- the layer `i`
 abbrev pub italic : Layer
 italic = letter_layer 105
 
@@ -38,6 +40,7 @@ bare_element kind name = element (record { kind = kind; name = name ∷ []; attr
 abbrev pub a_leaf : Entry
 a_leaf = record { content = leaf (bare_element ui 108); layers = [] }
 
+-- an inline object `o` in these layers
 abbrev pub an_object : List Layer → Entry
 an_object layers = record { content = item (bare_element container 111); layers = layers }
 

@@ -5,7 +5,7 @@ ghost use Rattle.view_definitions.specs.Node.{container, ui, text, content, dept
 ghost use Rattle.view_definitions.specs.Layer.{Layer, layer_cmp, in_layer};
 ghost use Rattle.view_definitions.specs.Row.{nest, join};
 ghost use Rattle.view_definitions.specs.Change.{IsInOrder, has_layer, with_layer, without_layer, entry_with, entry_without, changed_range};
-ghost use Rattle.view_definitions.specs.Place.{node_at, list_at, changed, changes_of, numbers_of};
+ghost use Rattle.view_definitions.specs.Place.{node_at, list_at, nearest, changed, changes_of, numbers_of};
 ghost use Rattle.view_definitions.specs.Sample.{bold, italic, link, mark, letter, caret_in, a_leaf, an_object, bare_element, paragraph};
 
 /// The lower priority stands outside; then the identity text decides, then the id, none first.
@@ -81,6 +81,12 @@ pub fn counts()
     ensures outer { changed (0 ∷ 0 ∷ []) [] (paragraph (Some 3) 0 (paragraph None 0 (text (97 ∷ []) ∷ []) ∷ []) ∷ [])
         ≡ paragraph (Some 3) 1 (paragraph None 0 [] ∷ []) ∷ [] }
     ensures greatest { changed (0 ∷ []) [] (paragraph (Some 3) 18446744073709551615 (text [] ∷ []) ∷ []) ≡ paragraph (Some 3) 18446744073709551615 [] ∷ [] }
+    ensures nearest_inner { nearest (0 ∷ 0 ∷ []) (paragraph (Some 3) 0 (paragraph (Some 5) 1 (text (97 ∷ []) ∷ []) ∷ []) ∷ []) ≡ Some 5 }
+    ensures nearest_outer { nearest (0 ∷ 0 ∷ []) (paragraph (Some 3) 0 (paragraph None 0 (text (97 ∷ []) ∷ []) ∷ []) ∷ []) ≡ Some 3 }
+    ensures nearest_none { nearest (0 ∷ 0 ∷ []) (paragraph None 0 (paragraph None 0 (text (97 ∷ []) ∷ []) ∷ []) ∷ []) ≡ None }
+    ensures none { changed (0 ∷ 0 ∷ []) [] (paragraph None 0 (paragraph None 0 (text (97 ∷ []) ∷ []) ∷ []) ∷ []) ≡ paragraph None 0 (paragraph None 0 [] ∷ []) ∷ [] }
+    ensures brought { changed (0 ∷ []) (paragraph (Some 4) 6 [] ∷ []) (paragraph (Some 3) 0 (paragraph (Some 5) 1 [] ∷ []) ∷ [])
+        ≡ paragraph (Some 3) 1 (paragraph (Some 4) 6 [] ∷ []) ∷ [] }
     ensures of_number { changes_of 5 (text [] ∷ paragraph (Some 3) 0 (paragraph (Some 5) 7 [] ∷ []) ∷ []) ≡ Some 7 }
     ensures numbers { numbers_of (paragraph (Some 3) 0 (paragraph (Some 5) 7 [] ∷ []) ∷ paragraph (Some 4) 0 [] ∷ []) ≡ 3 ∷ 5 ∷ 4 ∷ [] }
     ensures content { content (paragraph (Some 3) 9 [] ∷ []) ≡ paragraph None 0 [] ∷ [] }

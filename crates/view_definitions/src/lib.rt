@@ -2,13 +2,15 @@
 //! them. It has no program code: each function here is a law or a worked example, which its clauses state.
 #![tactic(auto)]
 
-ghost use Rattle.std.specs.Prelude.{◌≡◌, ◌++◌, ◌&&◌, ◌||◌, not, [], List};
+ghost use Rattle.std.specs.Prelude.{◌≡◌, ◌≢◌, IsSomeAnd, ℕ, ◌++◌, ◌&&◌, ◌||◌, not, [], List, nat_eq, Some, None};
+ghost use Rattle.std.specs.List.{IsDistinct};
 ghost use Rattle.std.specs.Cmp.{IsTotalOrder};
 ghost use Rattle.std.specs.declared.cmp.Ordering.TheVariants.{Equal};
 ghost use Rattle.view_definitions.specs.Node.{ViewNode};
 ghost use Rattle.view_definitions.specs.Layer.{Layer, layer_cmp, same_layer};
 ghost use Rattle.view_definitions.specs.Row.{Entry, IsPlainRow, nest, nest_by_rule, join};
 ghost use Rattle.view_definitions.specs.Change.{IsInOrder, has_layer, with_layer, without_layer};
+ghost use Rattle.view_definitions.specs.Place.{list_at, nearest, one_more, changed, changes_of, numbers_of};
 
 pub mod examples;
 
@@ -44,4 +46,16 @@ pub fn layers_change()
     ensures without_in_order { (layer : Layer) (layers : List Layer) → IsInOrder layers → IsInOrder (without_layer layer layers) }
     ensures without_one { (layer other : Layer) (layers : List Layer)
         → has_layer other (without_layer layer layers) ≡ (not (same_layer layer other) && has_layer other layers) }
+{}
+
+/// A change of the list of children at a path is counted once. Where no two elements have one number, the nearest element with a number on the
+/// path, which is the innermost one, has counted one change more, or stays at the greatest count. Any other number keeps its count, where the old
+/// and the new list have the same for it, as they have where neither has the number. A number that the nodes didn't have comes with its count.
+pub fn changes_are_counted()
+    ensures nearest { (path : List ℕ) (new nodes : List ViewNode) (number : ℕ) → IsDistinct nat_eq (numbers_of nodes) → nearest path nodes ≡ Some number
+        → IsSomeAnd (changes_of number nodes) (λ count. changes_of number (changed path new nodes) ≡ Some (one_more count)) }
+    ensures others { (path : List ℕ) (new old nodes : List ViewNode) (number : ℕ) → list_at path nodes ≡ Some old → nearest path nodes ≢ Some number
+        → changes_of number new ≡ changes_of number old → changes_of number (changed path new nodes) ≡ changes_of number nodes }
+    ensures new { (path : List ℕ) (new old nodes : List ViewNode) (number : ℕ) → list_at path nodes ≡ Some old → changes_of number nodes ≡ None
+        → changes_of number (changed path new nodes) ≡ changes_of number new }
 {}
