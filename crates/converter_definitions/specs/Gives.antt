@@ -37,10 +37,14 @@ pub data Given : Type 0 where
 abbrev pub Gift : Type 0
 Gift = List Key × Given
 
+-- what a product's converter gives
+abbrev pub Giving : Type 0
+Giving = Facts → Option (List Key × Part)
+
 -- a converter: one of the settings, or one of a product, by what it gives
 pub data Converter : Type 0 where
   stock : StockConverter → Converter
-  boxed : (Facts → Option (List Key × Part)) → Converter
+  boxed : Giving → Converter
 
 -- the converters in their order, the names of the elements that are objects in the text, whether layers are joined, and the names whose
 -- elements are counted

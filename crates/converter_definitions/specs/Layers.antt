@@ -1,5 +1,5 @@
 -- The layers around characters and around objects in the text.
-use Rattle.std.specs.Prelude.{ℕ, List, [], ◌∷◌, ◌++◌, Bool, true, false, ◌&&◌, ◌==◌, Option, Some, None, is_none, unwrap_or, fold, if◌then◌else◌}
+use Rattle.std.specs.Prelude.{◌≡◌, ◌⊎◌, ℕ, List, [], ◌∷◌, ◌++◌, Bool, true, false, ◌&&◌, ◌==◌, Option, Some, None, is_none, unwrap_or, fold, if◌then◌else◌}
 use Rattle.std.specs.List.{list_all, filter_map}
 use Rattle.std.specs.Option.{option_map_or, option_or}
 use Rattle.std.specs.Ordering.{int_cmp, eq_by_cmp}
@@ -41,6 +41,10 @@ goes_on [] [] = true
 goes_on [] (byte ∷ name) = byte == 58
 goes_on (own ∷ group) [] = false
 goes_on (own ∷ group) (byte ∷ name) = own == byte && goes_on group name
+
+-- the name is the group's own, or begins with the group and a colon
+abbrev pub IsOfGroup : List ℕ → List ℕ → Type 0
+IsOfGroup group name = (name ≡ group) ⊎ ((rest : List ℕ) × (name ≡ group ++ (58 ∷ rest)))
 
 -- the layer of a highlight; without an id of its own it has the marker's name as its id
 abbrev pub highlight_layer : List ℕ → HighlightView → Layer

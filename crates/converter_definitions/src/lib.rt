@@ -6,6 +6,7 @@ mod examples;
 pub mod facts;
 mod fitting;
 pub mod kind;
+pub mod laws;
 pub mod part;
 pub mod pattern;
 pub mod shape;
