@@ -27,6 +27,7 @@ conversion_of gives list =
 abbrev pub listed : {X : Type 0} {Y : X → Type 0} → (DynBox X Global Y → Giving) → List (Listed X Y) → List (ℤ × Converter)
 listed gives entries = map (λ listed. (listed.priority, converter_of gives listed.entry)) entries
 
+-- those of a list
 abbrev pub listed_of : {X : Type 0} {Y : X → Type 0} → (DynBox X Global Y → Giving) → ConverterList X Y → List (ℤ × Converter)
 listed_of gives list = listed gives list.entries.items
 

@@ -125,6 +125,7 @@ pub record Collected : Type 0 where
   pub extras : List ViewAttributes
   pub layers : List Layer
 
+-- what was made with what a converter gives
 abbrev pub with_given : Given → Collected → Collected
 with_given (part (Shape form)) made = record made { form = Some form }
 with_given (part (Extra attributes)) made = record made { extras = made.extras ++ attributes ∷ [] }

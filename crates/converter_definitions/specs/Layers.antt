@@ -27,6 +27,7 @@ stock_character_gift attributes (AttributeToAttribute element model value view) 
 stock_character_gift attributes (MarkerToHighlight marker view) = None
 stock_character_gift attributes (MarkerToElement marker view) = None
 
+-- what a converter gives a character
 abbrev pub character_gift : Attributes → Converter → Option Gift
 character_gift attributes (stock converter) = stock_character_gift attributes converter
 character_gift attributes (boxed gives) = None
@@ -61,6 +62,7 @@ highlight_by marker (stock (MarkerToHighlight group view)) = if goes_on group ma
 highlight_by marker (stock (MarkerToElement group view)) = None
 highlight_by marker (boxed gives) = None
 
+-- the leaf that a converter makes of a marker
 abbrev pub leaf_by : List ℕ → Converter → Option Leaf
 leaf_by marker (stock (ElementToElement model attributes parent view)) = None
 leaf_by marker (stock (ElementToStructure model attributes parent view)) = None
@@ -75,6 +77,7 @@ abbrev pub highlight_of : List Converter → List ℕ → Option Layer
 highlight_of [] marker = None
 highlight_of (converter ∷ converters) marker = option_or (highlight_by marker converter) (highlight_of converters marker)
 
+-- the leaf of a marker
 abbrev pub leaf_of : List Converter → List ℕ → Option Leaf
 leaf_of [] marker = None
 leaf_of (converter ∷ converters) marker = option_or (leaf_by marker converter) (leaf_of converters marker)
@@ -101,6 +104,7 @@ abbrev pub join_into : Layer → List Layer → List Layer
 join_into next [] = next ∷ []
 join_into next (other ∷ layers) = if may_join other next then with_keys other next ∷ layers else other ∷ join_into next layers
 
+-- layers joined one after the other
 abbrev pub joined_layers : List Layer → List Layer
 joined_layers layers = fold (λ made next. join_into next made) [] layers
 
