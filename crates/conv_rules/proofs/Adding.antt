@@ -3,7 +3,8 @@ use Rattle.std.specs.Prelude.{◌≡◌, ℤ, suc, List, [], ◌∷◌, map, Boo
 use Rattle.std.proofs.Common.{refl, ap}
 use Rattle.std.specs.List.{insert}
 use Rattle.converter_definitions.specs.Gives.{Converter}
-use Rattle.conv_rules.specs.Listed.{added, place_behind}
+use Rattle.converter_definitions.specs.Priority.{added}
+use Rattle.conv_rules.specs.Listed.{place_behind}
 
 module _ {A : Type 0} (view : A → ℤ × Converter) (next : A) where
   step : (test : Bool) (other : A) (rest : List A)

@@ -1,20 +1,13 @@
 -- The converters of a list.
-use Rattle.std.specs.Prelude.{ℕ, ℤ, suc, ◌+◌, List, [], ◌∷◌, map, int_lt, Option, if◌then◌else◌}
+use Rattle.std.specs.Prelude.{ℕ, ℤ, suc, ◌+◌, List, [], ◌∷◌, map, int_lt, if◌then◌else◌}
 use Rattle.std.specs.Global.{Global}
 use Rattle.std.specs.declared.dyn_box.DynBox.{DynBox}
-use Rattle.converter_definitions.specs.declared.facts.Facts.{Facts}
-use Rattle.converter_definitions.specs.declared.facts.Key.{Key}
-use Rattle.converter_definitions.specs.declared.part.Part.{Part}
-use Rattle.converter_definitions.specs.Gives.{Converter, stock, boxed, Conversion, Converted}
+use Rattle.converter_definitions.specs.Gives.{Giving, Converter, stock, boxed, Conversion, Converted}
 use Rattle.conv_rules.specs.declared.list.Entry.{Entry}
 use Rattle.conv_rules.specs.declared.list.Entry.TheVariants as entry
 use Rattle.conv_rules.specs.declared.list.Listed.{Listed}
 use Rattle.conv_rules.specs.declared.list.ConverterList.{ConverterList}
 use Rattle.conv_rules.specs.declared.shaping.Converted.{Converted as Made}
-
--- what a product's converter gives
-abbrev pub Giving : Type 0
-Giving = Facts → Option (List Key × Part)
 
 -- a converter as the definitions have it, by what the product's ones give
 abbrev pub converter_of : {X : Type 0} {Y : X → Type 0} → (DynBox X Global Y → Giving) → Entry X Y → Converter
@@ -34,13 +27,9 @@ conversion_of gives list =
 abbrev pub listed : {X : Type 0} {Y : X → Type 0} → (DynBox X Global Y → Giving) → List (Listed X Y) → List (ℤ × Converter)
 listed gives entries = map (λ listed. (listed.priority, converter_of gives listed.entry)) entries
 
+-- those of a list
 abbrev pub listed_of : {X : Type 0} {Y : X → Type 0} → (DynBox X Global Y → Giving) → ConverterList X Y → List (ℤ × Converter)
 listed_of gives list = listed gives list.entries.items
-
--- a converter more, behind all of equal or higher priority
-abbrev pub added : ℤ × Converter → List (ℤ × Converter) → List (ℤ × Converter)
-added next [] = next ∷ []
-added next (other ∷ rest) = if int_lt other.0 next.0 then next ∷ other ∷ rest else other ∷ added next rest
 
 -- how many there are before the first of a lower priority
 abbrev pub place_behind : ℤ → List (ℤ × Converter) → ℕ

@@ -7,6 +7,7 @@ use Rattle.converter_definitions.specs.declared.part.Part.TheVariants.{Shape, Ex
 use Rattle.converter_definitions.specs.Facts.{is_left, are_left, left_without_all}
 use Rattle.converter_definitions.specs.Gives.{Gift, part, Collected, with_given}
 
+-- whether there are no keys
 abbrev pub is_none_of : List Key → Bool
 is_none_of [] = true
 is_none_of (key ∷ keys) = false
@@ -16,6 +17,7 @@ abbrev pub is_lawful : List Key → Part → Bool
 is_lawful keys (Shape form) = is_left keys Insert
 is_lawful keys (Extra attributes) = not (is_left keys Insert) && not (is_none_of keys)
 
+-- what a product's converter gives is lawful, if it gives anything
 abbrev pub IsLawful : Option (List Key × Part) → Type 0
 IsLawful None = Unit {0}
 IsLawful (Some (keys, written)) = is_lawful keys written ≡ true
@@ -29,6 +31,7 @@ boxed_gift given = option_map (λ pair. (pair.0, part pair.1)) given
 abbrev pub turn_if : Bool → List Key → Part → List Key → List Key × Option Part
 turn_if test keys written left = if test then (left_without_all keys left, Some written) else (left, None)
 
+-- the turn of a converter that may give nothing
 abbrev pub turn : Option (List Key × Part) → List Key → List Key × Option Part
 turn None left = (left, None)
 turn (Some (keys, written)) left = turn_if (are_left left keys) keys written left

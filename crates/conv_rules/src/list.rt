@@ -1,7 +1,8 @@
 //! The list of converters.
 ghost use Rattle.std.specs.Prelude.{◌≡◌, ◌≤◌, [], length, OnOk, OnErr};
 ghost use Rattle.schema_definitions.specs.Names.{has};
-ghost use Rattle.conv_rules.specs.Listed.{added, converter_of, conversion_of, listed, listed_of, place_behind};
+ghost use Rattle.converter_definitions.specs.Priority.{added};
+ghost use Rattle.conv_rules.specs.Listed.{converter_of, conversion_of, listed, listed_of, place_behind};
 
 use crate::converter::Converter;
 use crate::stock::has;

@@ -1,2 +1,4 @@
 mod Sizes
 mod LayerOrder
+mod Priority
+mod Groups

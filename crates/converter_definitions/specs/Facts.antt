@@ -34,5 +34,6 @@ are_left left keys = list_all (is_left left) keys
 abbrev pub left_without : Key → List Key → List Key
 left_without key left = filter (λ other. not (same_key key other)) left
 
+-- what is left without these keys
 abbrev pub left_without_all : List Key → List Key → List Key
 left_without_all keys left = filter (λ other. not (is_left keys other)) left

@@ -32,6 +32,7 @@ abbrev mutual
   form_depth (text scalars) = 1
   form_depth (element kind name attributes children) = 1 + inner_depth children
 
+  -- how many levels of nodes there are among these
   pub inner_depth : {A : Type 0} → Forms A → ℕ
   inner_depth none = 0
   inner_depth (more form forms) = max (form_depth form) (inner_depth forms)

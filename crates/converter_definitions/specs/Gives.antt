@@ -37,10 +37,14 @@ pub data Given : Type 0 where
 abbrev pub Gift : Type 0
 Gift = List Key × Given
 
+-- what a product's converter gives
+abbrev pub Giving : Type 0
+Giving = Facts → Option (List Key × Part)
+
 -- a converter: one of the settings, or one of a product, by what it gives
 pub data Converter : Type 0 where
   stock : StockConverter → Converter
-  boxed : (Facts → Option (List Key × Part)) → Converter
+  boxed : Giving → Converter
 
 -- the converters in their order, the names of the elements that are objects in the text, whether layers are joined, and the names whose
 -- elements are counted
@@ -121,6 +125,7 @@ pub record Collected : Type 0 where
   pub extras : List ViewAttributes
   pub layers : List Layer
 
+-- what was made with what a converter gives
 abbrev pub with_given : Given → Collected → Collected
 with_given (part (Shape form)) made = record made { form = Some form }
 with_given (part (Extra attributes)) made = record made { extras = made.extras ++ attributes ∷ [] }

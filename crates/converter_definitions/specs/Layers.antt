@@ -1,5 +1,5 @@
 -- The layers around characters and around objects in the text.
-use Rattle.std.specs.Prelude.{ℕ, List, [], ◌∷◌, ◌++◌, Bool, true, false, ◌&&◌, ◌==◌, Option, Some, None, is_none, unwrap_or, fold, if◌then◌else◌}
+use Rattle.std.specs.Prelude.{◌≡◌, ◌⊎◌, ℕ, List, [], ◌∷◌, ◌++◌, Bool, true, false, ◌&&◌, ◌==◌, Option, Some, None, is_none, unwrap_or, fold, if◌then◌else◌}
 use Rattle.std.specs.List.{list_all, filter_map}
 use Rattle.std.specs.Option.{option_map_or, option_or}
 use Rattle.std.specs.Ordering.{int_cmp, eq_by_cmp}
@@ -27,6 +27,7 @@ stock_character_gift attributes (AttributeToAttribute element model value view) 
 stock_character_gift attributes (MarkerToHighlight marker view) = None
 stock_character_gift attributes (MarkerToElement marker view) = None
 
+-- what a converter gives a character
 abbrev pub character_gift : Attributes → Converter → Option Gift
 character_gift attributes (stock converter) = stock_character_gift attributes converter
 character_gift attributes (boxed gives) = None
@@ -41,6 +42,10 @@ goes_on [] [] = true
 goes_on [] (byte ∷ name) = byte == 58
 goes_on (own ∷ group) [] = false
 goes_on (own ∷ group) (byte ∷ name) = own == byte && goes_on group name
+
+-- the name is the group's own, or begins with the group and a colon
+abbrev pub IsOfGroup : List ℕ → List ℕ → Type 0
+IsOfGroup group name = (name ≡ group) ⊎ ((rest : List ℕ) × (name ≡ group ++ (58 ∷ rest)))
 
 -- the layer of a highlight; without an id of its own it has the marker's name as its id
 abbrev pub highlight_layer : List ℕ → HighlightView → Layer
@@ -57,6 +62,7 @@ highlight_by marker (stock (MarkerToHighlight group view)) = if goes_on group ma
 highlight_by marker (stock (MarkerToElement group view)) = None
 highlight_by marker (boxed gives) = None
 
+-- the leaf that a converter makes of a marker
 abbrev pub leaf_by : List ℕ → Converter → Option Leaf
 leaf_by marker (stock (ElementToElement model attributes parent view)) = None
 leaf_by marker (stock (ElementToStructure model attributes parent view)) = None
@@ -71,6 +77,7 @@ abbrev pub highlight_of : List Converter → List ℕ → Option Layer
 highlight_of [] marker = None
 highlight_of (converter ∷ converters) marker = option_or (highlight_by marker converter) (highlight_of converters marker)
 
+-- the leaf of a marker
 abbrev pub leaf_of : List Converter → List ℕ → Option Leaf
 leaf_of [] marker = None
 leaf_of (converter ∷ converters) marker = option_or (leaf_by marker converter) (leaf_of converters marker)
@@ -97,6 +104,7 @@ abbrev pub join_into : Layer → List Layer → List Layer
 join_into next [] = next ∷ []
 join_into next (other ∷ layers) = if may_join other next then with_keys other next ∷ layers else other ∷ join_into next layers
 
+-- layers joined one after the other
 abbrev pub joined_layers : List Layer → List Layer
 joined_layers layers = fold (λ made next. join_into next made) [] layers
 

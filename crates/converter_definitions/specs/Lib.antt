@@ -8,5 +8,6 @@ pub mod Pattern
 pub mod Shape
 pub mod Views
 pub mod Gives
+pub mod Priority
 pub mod Layers
 pub mod Sample

@@ -13,6 +13,7 @@ use Rattle.converter_definitions.specs.declared.pattern.Pattern.TheVariants.{Tex
 abbrev pub Patterns : Type 0
 Patterns = List (List ℕ × Pattern)
 
+-- the text of a truth value
 abbrev pub truth_text : Bool → List ℕ
 truth_text true = codes "true"
 truth_text false = codes "false"

@@ -28,6 +28,7 @@ view_of name attributes = record { name = name; is_empty = false; attributes = a
 abbrev pub plainly : List ℕ → List ℕ → Converter
 plainly model name = stock (ElementToElement model [] None (view_of name []))
 
+-- the attribute `class` with this text
 abbrev pub class : List ℕ → ViewAttributes
 class name = (codes "class", name) ∷ []
 
@@ -63,6 +64,7 @@ sample_converters =
     ∷ stock (MarkerToElement (codes "bookmark") (record { name = codes "a"; attrs = class (codes "bookmark") }))
     ∷ []
 
+-- what the examples convert by
 abbrev pub sample : Conversion
 sample = record { converters = sample_converters; objects = codes "checkbox" ∷ []; joined = false; indexed = codes "listItem" ∷ [] }
 
@@ -84,6 +86,7 @@ spans joined first second = record {
 abbrev pub span : ViewAttributes → Layer
 span attributes = record { name = codes "span"; attrs = attributes; priority = pos 10; id = None }
 
+-- the attributes `bold` and `italic`
 abbrev pub on : Attributes
 on = (codes "bold", Truth true) ∷ (codes "italic", Truth true) ∷ []
 

@@ -13,11 +13,13 @@ may_hold Ui Container = false
 may_hold Ui Empty = false
 may_hold Ui Ui = true
 
+-- whether an element of the kind may have a slot in it
 abbrev pub may_hold_slot : ShapeKind → Bool
 may_hold_slot Container = true
 may_hold_slot Empty = false
 may_hold_slot Ui = false
 
+-- whether an element of the kind may have a text in it
 abbrev pub may_hold_text : ShapeKind → Bool
 may_hold_text Container = false
 may_hold_text Empty = false
@@ -36,6 +38,7 @@ abbrev mutual
   fits (text scalars) = true
   fits (element kind name attributes children) = fit_in kind children
 
+  -- each of these nodes may stand in an element of the kind, and what is in them where it stands
   pub fit_in : {A : Type 0} → ShapeKind → Forms A → Bool
   fit_in kind none = true
   fit_in kind (more form forms) = may_stand kind form && fits form && fit_in kind forms
@@ -47,6 +50,7 @@ abbrev mutual
   form_count (text scalars) = 1
   form_count (element kind name attributes children) = 1 + inner_count children
 
+  -- how many nodes there are among these and in them
   pub inner_count : {A : Type 0} → Forms A → ℕ
   inner_count none = 0
   inner_count (more form forms) = form_count form + inner_count forms
@@ -58,6 +62,7 @@ abbrev mutual
   slot_count (text scalars) = 0
   slot_count (element kind name attributes children) = inner_slots children
 
+  -- how many slots there are among these and in them
   pub inner_slots : {A : Type 0} → Forms A → ℕ
   inner_slots none = 0
   inner_slots (more form forms) = slot_count form + inner_slots forms
@@ -82,6 +87,7 @@ abbrev mutual
   slot_in (text scalars) = None
   slot_in (element kind name attributes children) = slot_among 0 children
 
+  -- the way to the slot among nodes, the first of which has this index
   pub slot_among : {A : Type 0} → ℕ → Forms A → Option (List ℕ)
   slot_among index none = None
   slot_among index (more form forms) = option_or (option_map (λ place. index ∷ place) (slot_in form)) (slot_among (index + 1) forms)
@@ -93,6 +99,7 @@ abbrev mutual
   form_with change (text scalars) = text scalars
   form_with change (element kind name attributes children) = element kind name (change attributes) (forms_with change children)
 
+  -- each of these so
   pub forms_with : {A B : Type 0} → (A → B) → Forms A → Forms B
   forms_with change none = none
   forms_with change (more form forms) = more (form_with change form) (forms_with change forms)

@@ -25,6 +25,7 @@ abbrev mutual
   filled content (text scalars) = nodes.text scalars ∷ []
   filled content (element kind name attributes children) = nodes.element (head_of kind name attributes) (nodes_of (filled_inner content children)) ∷ []
 
+  -- nodes of a shape with these nodes in the slot
   pub filled_inner : List ViewNode → Forms ViewAttributes → List ViewNode
   filled_inner content none = []
   filled_inner content (more form forms) = filled content form ++ filled_inner content forms
@@ -35,6 +36,7 @@ joined_text is_class more_text None = more_text
 joined_text true more_text (Some old) = old ++ (32 ∷ more_text)
 joined_text false more_text (Some old) = old
 
+-- attributes with an extra one joined to them
 abbrev pub with_extra_text : ViewAttributes → List ℕ × List ℕ → ViewAttributes
 with_extra_text attributes entry =
     with_value entry.0 (joined_text (bytes_eq entry.0 (codes "class")) entry.1 (value_of entry.0 attributes)) attributes

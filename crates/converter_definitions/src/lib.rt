@@ -7,6 +7,7 @@ pub mod facts;
 mod fitting;
 pub mod kind;
 pub mod layer_laws;
+pub mod laws;
 pub mod part;
 pub mod pattern;
 pub mod shape;

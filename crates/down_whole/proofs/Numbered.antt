@@ -1,16 +1,18 @@
 -- Exactly the elements of a document are bound, and no two to one view element.
-use Rattle.std.proofs.Common.{◌≡◌, ℕ, ◌+◌, ◌==◌, nat_lt, ◌||◌, List, [], ◌∷◌, inl, inr, Bool, true, false, if◌then◌else◌, Option, Some, None, refl, sym, ap, ◌∙◌, arith}
+use Rattle.std.proofs.Common.{◌≡◌, ℕ, ◌+◌, ◌*◌, ◌<◌, ◌≤◌, ◌==◌, nat_lt, ◌||◌, List, [], ◌∷◌, length, length-append, inl, inr, Bool, true, false, if◌then◌else◌, Option, Some, None, refl, sym, ap, ◌∙◌, subst, arith}
 use Rattle.std.proofs.lemmas.Bool.Decides.{nat_tests}
 use Rattle.std.specs.Prelude.{is_some, option_map, cond, codes}
 use Rattle.std.specs.List.{find, list_any}
-use Rattle.item_definitions.specs.Item.{items_of}
-use Rattle.item_definitions.proofs.Distinct.{Among}
-use Rattle.document_definitions.specs.Document.{State, ids_of}
+use Rattle.item_definitions.specs.Item.{Item, Items, character, element, none, more, items_of}
+use Rattle.item_definitions.proofs.Distinct.{Among, among-join}
+use Rattle.document_definitions.specs.Document.{State, ids_of, ids_of_item, ids_of_inner}
 use Rattle.document_definitions.specs.Sound.{IsSound}
 use Rattle.view_definitions.specs.Node.{ViewNode}
 use Rattle.converter_definitions.specs.Gives.{Conversion}
 use Rattle.pos_mapper.specs.Bindings.{Binding, Mapper, numbers_of}
-use Rattle.down_whole.specs.Bound.{bindings_among}
+use Rattle.pos_mapper.specs.Mapped.{slot_of}
+use Rattle.downcast_definitions.specs.Rows.{elements_in, shape_at}
+use Rattle.down_whole.specs.Bound.{elements_of, elements_among, bindings_of, bindings_among, AreBelow}
 use Rattle.down_whole.specs.Numbered.{AreNumbered}
 use Rattle.down_whole.proofs.Bindings.{held, found, times, ids_times, same-ids, once, Once, flipped, equal}
 use Rattle.down_whole.proofs.Mapping.{AllMade, mapper-bindings, items-distinct}
@@ -67,6 +69,25 @@ one-id bindings o id other number a b =
     let equals : a.binding ≡ b.binding = cc in
     sym a.has_id ∙ ap (λ (binding : Binding). binding.id) equals ∙ b.has_id
 
+mutual
+  below-of : (conversion : Conversion) (parent : List ℕ) (before drawn : ℕ) (item : Item) (binding : Binding) → Among binding (bindings_of conversion parent before drawn item) → binding.number < drawn + elements_of item
+  below-of conversion parent before drawn (character scalar attributes) binding a = absurd a
+  below-of conversion parent before drawn (element id name attributes children) binding a =
+      let inside = bindings_among conversion name 0 drawn children in
+      let last : Binding = record { id = id; number = drawn + elements_among children; slot = slot_of (shape_at conversion parent before name attributes).form } in
+      elim (among-join binding inside (last ∷ []) a) [
+        | inl b ↦ (let n = below-among conversion name 0 drawn children binding b in omega (arith, n))
+        | inr b ↦ elim b [ inl e ↦ (let n : binding.number ≡ drawn + elements_among children = ap (λ (b : Binding). b.number) e in omega (arith, n)) | inr none_left ↦ absurd none_left ]
+      ]
+
+  below-among : (conversion : Conversion) (parent : List ℕ) (before drawn : ℕ) (list : Items) (binding : Binding) → Among binding (bindings_among conversion parent before drawn list) → binding.number < drawn + elements_among list
+  below-among conversion parent before drawn none binding a = absurd a
+  below-among conversion parent before drawn (more item rest) binding a =
+      elim (among-join binding (bindings_of conversion parent before drawn item) (bindings_among conversion parent (before + elements_in item) (drawn + elements_of item) rest) a) [
+        | inl b ↦ (let n = below-of conversion parent before drawn item binding b in omega (arith, n))
+        | inr b ↦ (let n = below-among conversion parent (before + elements_in item) (drawn + elements_of item) rest binding b in omega (arith, n))
+      ]
+
 -- the mapper of a document numbers exactly its elements, each by a number of its own
 pub numbered_is : (conversion : Conversion) (state : State) (nodes : List ViewNode) (new : Mapper) → IsSound state → AllMade conversion state.document nodes new
     → AreNumbered (numbers_of new) (ids_of state.document.items)
@@ -91,3 +112,29 @@ numbered_is conversion state nodes new s m =
     kept : (o : Option Binding) → is_some (option_map (λ binding. binding.number) o) ≡ is_some o
     kept None = refl
     kept (Some binding) = refl
+
+-- each number that is bound was drawn
+pub below_is : (conversion : Conversion) (state : State) (nodes : List ViewNode) (new : Mapper) (drawn : ℕ) → IsSound state → AllMade conversion state.document nodes new
+    → drawn ≡ elements_among (items_of state.document.items) → AreBelow drawn (numbers_of new)
+below_is conversion state nodes new drawn s m d = λ id number e.
+    let items = items_of state.document.items in
+    let is = mapper-bindings conversion state.document nodes new m (items-distinct state s) in
+    let b = bound-so (bindings_among conversion (codes "$root") 0 0 items) id number (ap (λ all. option_map (λ (binding : Binding). binding.number) (find (λ binding. binding.id == id) all)) (sym is) ∙ e) in
+    let less = below-among conversion (codes "$root") 0 0 items b.binding b.among in
+    omega (arith, b.has_number)
+
+-- there are as many elements as ids
+mutual
+  elements-ids-of : (item : Item) → elements_of item ≡ length (ids_of_item item)
+  elements-ids-of (character scalar attributes) = refl
+  elements-ids-of (element id name attributes children) = omega (arith, elements-ids-among children)
+
+  elements-ids-among : (list : Items) → elements_among list ≡ length (ids_of_inner list)
+  elements-ids-among none = refl
+  elements-ids-among (more item rest) = omega (arith, elements-ids-of item, elements-ids-among rest, length-append (ids_of_item item) (ids_of_inner rest))
+
+pub elements_ids : (list : List Item) → elements_among (items_of list) ≡ length (ids_of list)
+elements_ids list = elements-ids-among (items_of list) ∙ ap length (same-ids list)
+
+pub calls_ids : (each start now : ℕ) (list : List Item) → now ≤ start + each * elements_among (items_of list) → now ≤ start + each * length (ids_of list)
+calls_ids each start now list h = subst (λ n. now ≤ start + each * n) (elements_ids list) h

@@ -1,9 +1,12 @@
 -- A content of which some items are made.
-use Rattle.std.proofs.Common.{◌≡◌, ℕ, zero, suc, ◌+◌, ◌<◌, ◌≤◌, List, [], ◌∷◌, ◌++◌, length, take, get_or, true, refl, sym, ap, ◌∙◌, subst, arith}
+use Rattle.std.proofs.Common.{◌≡◌, ℕ, zero, suc, ◌+◌, ◌*◌, ◌<◌, ◌≤◌, List, [], ◌∷◌, ◌++◌, length, take, get_or, true, refl, sym, ap, ◌∙◌, subst, mul-le-mul_left, mul-add, mul-one, arith}
 use Rattle.item_definitions.specs.Item.{Item, Items, Attributes, character, element, none, more, items_of, count_of, depth_of, inner_count}
 use Rattle.model_tree.specs.declared.items.Node.{Node}
+use Rattle.model_tree.specs.declared.items.Node.TheVariants.{Run, Element}
+use Rattle.model_tree.specs.Parts.{TextParts, HeadParts}
 use Rattle.model_tree.specs.Nodes.{items_at, items_in}
-use Rattle.model_tree.proofs.Counts.{count-inner, count-append, depth-append}
+use Rattle.model_tree.proofs.Counts.{count-inner, count-append, count-characters, depth-inner, depth-append}
+use Rattle.model_tree.proofs.Shown.{length_count}
 use Rattle.model_tree.proofs.Steps.{up_to}
 use Rattle.converter_definitions.specs.Shape.{is_shape}
 use Rattle.converter_definitions.specs.Gives.{Conversion, Converted}
@@ -95,19 +98,78 @@ taken-depth zero nodes = omega arith
 taken-depth (suc count) [] = omega arith
 taken-depth (suc count) (node ∷ nodes) = omega (arith, taken-depth count nodes, depth-append (items_at node) (items_in (take count nodes)), depth-append (items_at node) (items_in nodes))
 
-pub count-room : (nodes : List Node) (index : ℕ) (node : Node) (all : List Item) → index < length nodes → node ≡ get_or nodes index node → items_in nodes ≡ all
-    → count_of (items_in (take index nodes)) + count_of (items_at node) ≤ count_of all
-count-room nodes index node all less is whole =
-    omega (arith, taken-count (index + 1) nodes, ap count_of (up_to nodes index node less is), count-append (items_in (take index nodes)) (items_at node), ap count_of whole)
-
-pub depth-room : (nodes : List Node) (index : ℕ) (node : Node) (all : List Item) → index < length nodes → node ≡ get_or nodes index node → items_in nodes ≡ all → depth_of (items_at node) ≤ depth_of all
-depth-room nodes index node all less is whole =
-    omega (arith, taken-depth (index + 1) nodes, ap depth_of (up_to nodes index node less is), depth-append (items_in (take index nodes)) (items_at node), ap depth_of whole)
-
 pub within-length : (list : List Item) → elements_within list ≤ length list
 within-length [] = omega arith
 within-length (character scalar attributes ∷ list) = omega (arith, within-length list)
 within-length (element id name attributes children ∷ list) = omega (arith, within-length list)
+
+taken-elements : (count : ℕ) (nodes : List Node) → elements_among (items_of (items_in (take count nodes))) ≤ elements_among (items_of (items_in nodes))
+taken-elements zero nodes = omega arith
+taken-elements (suc count) [] = omega arith
+taken-elements (suc count) (node ∷ nodes) = omega (arith, taken-elements count nodes, among-more (items_at node) (items_in (take count nodes)), among-more (items_at node) (items_in nodes))
+
+-- what there is of all items of the nodes, where this node is the next one
+pub record NextNode (nodes : List Node) (index : ℕ) (node : Node) (all : List Item) : Type 0 where
+  pub split : items_in (take (index + 1) nodes) ≡ items_in (take index nodes) ++ items_at node
+  pub count : count_of (items_in (take index nodes)) + count_of (items_at node) ≤ count_of all
+  pub offset : length (items_in (take index nodes)) ≤ count_of (items_in (take index nodes))
+  pub elements : elements_among (items_of (items_in (take index nodes))) + elements_among (items_of (items_at node)) ≤ elements_among (items_of all)
+  pub depth : depth_of (items_at node) ≤ depth_of all
+
+pub next-node : (read nodes : List Node) (index : ℕ) (node : Node) (all : List Item) → index < length read → node ≡ get_or read index node → read ≡ nodes → items_in nodes ≡ all
+    → NextNode read index node all
+next-node read nodes index node all less is same whole =
+    let there = up_to read index node less is in
+    let all_of = ap items_in same ∙ whole in
+    let so_far = items_in (take index read) in
+    record {
+      split = sym there;
+      count = omega (arith, taken-count (index + 1) read, ap count_of there, count-append so_far (items_at node), ap count_of all_of);
+      offset = length_count so_far;
+      elements =
+          omega (arith, taken-elements (index + 1) read, ap (λ list. elements_among (items_of list)) there, among-more so_far (items_at node), ap (λ list. elements_among (items_of list)) all_of);
+      depth = omega (arith, taken-depth (index + 1) read, ap depth_of there, depth-append so_far (items_at node), ap depth_of all_of);
+    }
+
+-- a text that is next
+pub text-room : (nodes : List Node) (index : ℕ) (node : Node) (text : TextParts) (all : List Item) (offset : ℕ) → NextNode nodes index node all → node ≡ Run text → offset ≡ length (items_in (take index nodes))
+    → offset + length text.scalars ≤ count_of all
+text-room nodes index node text all offset n is o = omega (arith, n.count, n.offset, ap (λ node. count_of (items_at node)) is, count-characters text.attributes text.scalars, o)
+
+-- an element that is next
+pub record ElementRoom (so_far children all : List Item) : Type 0 where
+  pub count : count_of so_far + (count_of children + 1) ≤ count_of all
+  pub offset : length so_far ≤ count_of so_far
+  pub elements : elements_among (items_of so_far) + (elements_among (items_of children) + 1) ≤ elements_among (items_of all)
+  pub few_so_far : elements_among (items_of so_far) ≤ count_of so_far
+  pub few : elements_among (items_of children) ≤ count_of children
+  pub depth : depth_of children + 1 ≤ depth_of all
+  pub before : elements_within so_far ≤ length so_far
+
+pub element-room : (nodes : List Node) (index : ℕ) (node : Node) (head : HeadParts) (children all : List Item) → NextNode nodes index node all → node ≡ Element head children
+    → ElementRoom (items_in (take index nodes)) children all
+element-room nodes index node head children all n is =
+    let so_far = items_in (take index nodes) in
+    record {
+      count = omega (arith, n.count, ap (λ node. count_of (items_at node)) is, count-inner children);
+      offset = n.offset;
+      elements = omega (arith, n.elements, ap (λ node. elements_among (items_of (items_at node))) is);
+      few_so_far = few-elements so_far;
+      few = few-elements children;
+      depth = omega (arith, n.depth, ap (λ node. depth_of (items_at node)) is, depth-inner children);
+      before = within-length so_far;
+    }
+
+-- ---- how often a product's converters are called
+
+pub calls-so-far : (each start now done all : ℕ) → now ≤ start + each * done → done ≤ all → now ≤ start + each * all
+calls-so-far each start now done all n d = omega (arith, mul-le-mul_left each d)
+
+pub calls-more : (each start now after done inner all : ℕ) → now ≤ start + each * done → after ≤ now + each + each * inner → done + (inner + 1) ≤ all → after ≤ start + each * all
+calls-more each start now after done inner all n a d =
+    let least : each * (done + (inner + 1)) ≤ each * all = mul-le-mul_left each d in
+    let parts : each * (done + (inner + 1)) ≡ each * done + (each * inner + each * 1) = mul-add each done (inner + 1) ∙ ap (λ n. each * done + n) (mul-add each inner 1) in
+    omega (arith, least, parts, mul-one each)
 
 -- an element has its shape, and so have those in it
 pub element-shapes : (conversion : Conversion) (parent : List ℕ) (before id : ℕ) (name : List ℕ) (attributes : Attributes) (list : List Item) (made : Converted) → made ≡ shape_at conversion parent before name attributes → is_shape made.form ≡ true → HaveShapes conversion name 0 (items_of list)

@@ -14,15 +14,18 @@ is_in layer node = both_layers (Some layer) (node_layer node)
 abbrev pub Opened : Type 0
 Opened = List ViewNode × List ViewNode
 
+-- the one or the other, as a test says
 abbrev pub opened_if : Bool → List ViewNode → List ViewNode → List ViewNode → Opened
 opened_if true rest inner kept = (rest, inner)
 opened_if false rest inner kept = (kept, [])
 
+-- the attribute element of the layer that the nodes end with
 abbrev pub opened_last : Layer → List ViewNode → Opened
 opened_last layer [] = ([], [])
 opened_last layer (node ∷ []) = opened_if (is_in layer node) [] (inner_of node) (node ∷ [])
 opened_last layer (node ∷ next ∷ rest) = (node ∷ (opened_last layer (next ∷ rest)).0, (opened_last layer (next ∷ rest)).1)
 
+-- and the one that they begin with
 abbrev pub opened_first : Layer → List ViewNode → Opened
 opened_first layer [] = ([], [])
 opened_first layer (node ∷ nodes) = opened_if (is_in layer node) nodes (inner_of node) (node ∷ nodes)
@@ -34,6 +37,7 @@ text_before (text scalars) (text more_scalars ∷ nodes) = text (scalars ++ more
 text_before (text scalars) (element head children ∷ nodes) = text scalars ∷ element head children ∷ nodes
 text_before (element head children) nodes = element head children ∷ nodes
 
+-- nodes behind others, where the texts that meet are one
 abbrev pub with_texts_joined : List ViewNode → List ViewNode → List ViewNode
 with_texts_joined [] nodes = nodes
 with_texts_joined (node ∷ []) nodes = text_before node nodes
@@ -52,6 +56,7 @@ last_text (text scalars ∷ []) = Some scalars
 last_text (element head children ∷ []) = None
 last_text (node ∷ next ∷ rest) = last_text (next ∷ rest)
 
+-- the text that nodes begin with, if they do
 abbrev pub first_text : List ViewNode → Option (List ℕ)
 first_text [] = None
 first_text (text scalars ∷ nodes) = Some scalars
@@ -63,6 +68,7 @@ text_of_both None other = None
 text_of_both (Some one) None = None
 text_of_both (Some one) (Some other) = Some (text (one ++ other))
 
+-- the text that meets where nodes stand behind others
 abbrev pub seam_text : List ViewNode → List ViewNode → Option ViewNode
 seam_text nodes more_nodes = text_of_both (last_text nodes) (first_text more_nodes)
 

@@ -1,5 +1,5 @@
 -- The bindings of a document's elements, whose view elements are numbered as they are made: each one behind all that are in it.
-use Rattle.std.specs.Prelude.{◌≡◌, ℕ, ◌+◌, List, [], ◌∷◌, ◌++◌, fold, All, Some}
+use Rattle.std.specs.Prelude.{◌≡◌, ℕ, ◌+◌, ◌<◌, List, [], ◌∷◌, ◌++◌, fold, All, Some}
 use Rattle.item_definitions.specs.Item.{Item, Items, character, element, none, more}
 use Rattle.converter_definitions.specs.Gives.{Conversion}
 use Rattle.downcast_definitions.specs.Scene.{Numbers}
@@ -13,6 +13,7 @@ abbrev mutual
   elements_of (character scalar attributes) = 0
   elements_of (element id name attributes children) = elements_among children + 1
 
+  -- how many elements are among items and in them
   pub elements_among : Items → ℕ
   elements_among none = 0
   elements_among (more item rest) = elements_of item + elements_among rest
@@ -25,6 +26,7 @@ abbrev mutual
       bindings_among conversion name 0 drawn children
       ++ (record { id = id; number = drawn + elements_among children; slot = slot_of (shape_at conversion parent before name attributes).form } ∷ [])
 
+  -- the bindings of items of this parent
   pub bindings_among : Conversion → List ℕ → ℕ → ℕ → Items → List Binding
   bindings_among conversion parent before drawn none = []
   bindings_among conversion parent before drawn (more item rest) =
@@ -38,3 +40,7 @@ Agree numbers bindings = All (λ binding. numbers binding.id ≡ Some binding.nu
 -- a mapper with these bindings more
 abbrev pub with_bindings : List Binding → Mapper → Mapper
 with_bindings bindings mapper = fold (λ made binding. with_binding binding made) mapper bindings
+
+-- each number that an element has is below this one
+abbrev pub AreBelow : ℕ → Numbers → Type 0
+AreBelow drawn numbers = (id number : ℕ) → numbers id ≡ Some number → number < drawn

@@ -24,6 +24,7 @@ abbrev mutual
   found_in_item scene path (element id name attributes children) found =
       found_here scene name path (list_of children) scene.caret (found_among scene path 0 children found)
 
+  -- the same for items from an offset on
   pub found_among : Scene → List ℕ → ℕ → Items → Option CaretPlace → Option CaretPlace
   found_among scene path offset none found = found
   found_among scene path offset (more item rest) found =

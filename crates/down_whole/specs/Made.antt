@@ -74,6 +74,7 @@ abbrev pub around_front : Caret → Option (List ViewNode) → List ViewNode →
 around_front here None nodes = nodes
 around_front here (Some front) nodes = between front here.layers nodes
 
+-- the nodes of a row with or without a caret
 abbrev pub finished : Option Caret → Written → List ViewNode
 finished None written = written.nodes
 finished (Some here) written = around_front here written.front written.nodes
@@ -83,6 +84,7 @@ abbrev pub place_found : Caret → Option (List ViewNode) → List ViewNode → 
 place_found here None nodes found = found
 place_found here (Some front) nodes found = Some (record { at = here.at; place = caret_at front here.layers nodes })
 
+-- the same for a row with or without a caret
 abbrev pub caret_found : Option Caret → Written → Option CaretPlace → Option CaretPlace
 caret_found None written found = found
 caret_found (Some here) written found = place_found here written.front written.nodes found

@@ -24,6 +24,7 @@ abbrev pub chosen_leaves : (Range → Bool) → List (Range × Leaf) → List En
 chosen_leaves test [] = []
 chosen_leaves test (marked ∷ rest) = if test marked.0 then leaf_entry marked.1 ∷ chosen_leaves test rest else chosen_leaves test rest
 
+-- the leaves that a scene has, each with its range
 abbrev pub marked : List MarkerLeaf → List (Range × Leaf)
 marked leaves = map (λ one. (one.range.now, one.view.now)) leaves
 

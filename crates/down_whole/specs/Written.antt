@@ -9,6 +9,7 @@ pub record Written : Type 0 where
   pub front : Option (List ViewNode)
   pub nodes : List ViewNode
 
+-- before the first entry
 abbrev pub nothing_written : Written
 nothing_written = record { front = None; nodes = [] }
 
@@ -19,6 +20,7 @@ with_content (item node) entry written = record written { nodes = join written.n
 with_content (character scalar) entry written = record written { nodes = join written.nodes (nest (entry ∷ [])) }
 with_content caret entry written = record { front = Some written.nodes; nodes = [] }
 
+-- an entry more behind what is written
 abbrev pub with_entry : Entry → Written → Written
 with_entry entry written = with_content entry.content entry written
 

@@ -1,5 +1,5 @@
 //! The content of an element: the nodes that its row nests to.
-ghost use Rattle.std.specs.Prelude.{◌≡◌, ◌≢◌, ◌+◌, ◌-◌, ◌<◌, ◌≤◌, ◌^◌, ◌++◌, [], ◌∷◌, OnOk, IfOk, IfSome, Some, length, true, IsTrue, ◌↔◌, option_copied, option_map};
+ghost use Rattle.std.specs.Prelude.{◌≡◌, ◌≢◌, ◌+◌, ◌*◌, ◌-◌, ◌<◌, ◌≤◌, ◌^◌, ◌++◌, [], ◌∷◌, OnOk, IfOk, IfSome, Some, length, true, IsTrue, ◌↔◌, option_copied, option_map};
 ghost use Rattle.item_definitions.specs.Item.{count_of, depth_of, items_of};
 ghost use Rattle.item_definitions.specs.Children.{offset_of};
 ghost use Rattle.document_definitions.specs.Markers.{covering};
@@ -9,7 +9,7 @@ ghost use Rattle.view_definitions.specs.Row.{item};
 ghost use Rattle.pos_mapper.specs.Bindings.{with_binding};
 ghost use Rattle.pos_mapper.specs.Mapped.{slot_of};
 ghost use Rattle.converter_definitions.specs.Layers.{character_layers};
-ghost use Rattle.conv_rules.specs.Listed.{conversion_of, converted_view};
+ghost use Rattle.conv_rules.specs.Listed.{boxed_count, conversion_of, converted_view};
 ghost use Rattle.downcast_definitions.specs.Scene.{Numbers, unnumbered};
 ghost use Rattle.downcast_definitions.specs.Rows.{facts_of, unconverted, shape_at, element_layers, with_number, only};
 ghost use Rattle.downcast_definitions.specs.Shown.{HaveShapes};
@@ -136,28 +136,34 @@ fn are_known(known: Option<&Vec<Name>>, names: &[Name]) -> bool
     }
 }
 
+/// A character of the model, with its attributes.
+#[derive(Clone, Copy)]
+struct Character<'a> {
+    attrs: &'a Attrs,
+    scalar: char,
+}
+
 /// Writes a character. The layers that were set are those of one that the known markers cover; where others cover this one, its own are set.
 fn push_scalar(
     list: &ConverterList,
     scene: &Scene<'_>,
     position: Path,
-    attrs: &Attrs,
-    scalar: char,
+    character: Character<'_>,
     known: Option<Vec<Name>>,
     row: &mut RowWriter,
 ) -> Result<Option<Vec<Name>>, NoMemory>
     requires item { position ≢ [] }
     requires limit { offset_of position < 4294967295 }
-    requires layers { HasLayers (conversion_of (λ object. gives (object.vtable, object.value)) list.now) attrs.now (option_map (λ names. names.items) known) row.old.layers.items }
-    ensures written { OnOk result (written row.new ≡ with_entry (character_in (character_layers (conversion_of (λ object. gives (object.vtable, object.value)) list.now) attrs.now (covering position scene.now.markers.now)) scalar) (written row.old)) }
-    ensures layers { IfOk result (λ known. HasLayers (conversion_of (λ object. gives (object.vtable, object.value)) list.now) attrs.now (option_map (λ names. names.items) known) row.new.layers.items) }
+    requires layers { HasLayers (conversion_of (λ object. gives (object.vtable, object.value)) list.now) character.attrs.now (option_map (λ names. names.items) known) row.old.layers.items }
+    ensures written { OnOk result (written row.new ≡ with_entry (character_in (character_layers (conversion_of (λ object. gives (object.vtable, object.value)) list.now) character.entry.attrs.now (covering position scene.now.markers.now)) character.entry.scalar) (written row.old)) }
+    ensures layers { IfOk result (λ known. HasLayers (conversion_of (λ object. gives (object.vtable, object.value)) list.now) character.entry.attrs.now (option_map (λ names. names.items) known) row.new.layers.items) }
 {
     let names = scene.markers.covering(&position)?;
     if !are_known(known.as_ref(), names.as_slice()) {
-        let layers = list.character_layers(scene.alloc, attrs, names.as_slice())?;
+        let layers = list.character_layers(scene.alloc, character.attrs, names.as_slice())?;
         row.set_layers(layers)?;
     }
-    row.push_character(scalar)?;
+    row.push_character(character.scalar)?;
     Ok(Some(names))
 }
 
@@ -180,7 +186,11 @@ fn push_run(
     for scalar in text.scalars() {
         let position = position_at(path, offset);
         scene.push_boundary(&position, row)?;
-        known = push_scalar(list, scene, position, text.attrs(), *scalar, known, row)?;
+        let character = Character {
+            attrs: text.attrs(),
+            scalar: *scalar,
+        };
+        known = push_scalar(list, scene, position, character, known, row)?;
         offset += 1;
     }
     Ok(())
@@ -221,7 +231,8 @@ fn converted_at<L: Ledger>(
     head: &Head,
     steps: &mut Steps<L>,
 ) -> Result<Converted, NoMemory>
-    ensures { IfOk result (λ made. converted_view made ≡ shape_at (conversion_of (λ object. gives (object.vtable, object.value)) list.now) here.entry.parent.now here.entry.before head.now.name head.now.attributes) }
+    ensures made { IfOk result (λ made. converted_view made ≡ shape_at (conversion_of (λ object. gives (object.vtable, object.value)) list.now) here.entry.parent.now here.entry.before head.now.name head.now.attributes) }
+    ensures calls { steps.new ≤ steps.old + boxed_count (conversion_of (λ object. gives (object.vtable, object.value)) list.now).converters }
 {
     let facts = facts_of(list, here.parent, here.before, head)?;
     match list.shape_for(alloc, &facts, steps)? {
@@ -233,14 +244,20 @@ fn converted_at<L: Ledger>(
     }
 }
 
-/// Writes the element at a path, which becomes this, as its view element with its content, which is made.
+/// What an element becomes, and the nodes of its content.
+#[derive(Drop)]
+struct MadeElement {
+    made: Converted,
+    content: Children,
+}
+
+/// Writes the element at a path, which becomes this, as its view element with its content.
 fn push_element(
     list: &ConverterList,
     scene: &Scene<'_>,
     position: Path,
     head: &Head,
-    made: Converted,
-    content: Children,
+    element: MadeElement,
     maker: &mut Maker,
     row: &mut RowWriter,
 ) -> Result<(), NoMemory>
@@ -248,13 +265,14 @@ fn push_element(
     requires limit { offset_of position < 4294967295 }
     requires numbers { maker.old.view.drawn < 2 ^ 64 - 1 }
     ensures row { OnOk result (written row.new ≡ with_entry (record {
-      content = item (with_number (Some maker.old.view.drawn) (only (filled content.nodes (converted_view made).form)));
-      layers = element_layers (scene_with (conversion_of (λ object. gives (object.vtable, object.value)) list.now) scene.now unnumbered) position head.now.name (converted_view made).layers;
+      content = item (with_number (Some maker.old.view.drawn) (only (filled element.content.nodes (converted_view element.made).form)));
+      layers = element_layers (scene_with (conversion_of (λ object. gives (object.vtable, object.value)) list.now) scene.now unnumbered) position head.now.name (converted_view element.made).layers;
     }) (written row.old)) }
     ensures drawn { OnOk result (maker.new.view.drawn ≡ maker.old.view.drawn + 1) }
-    ensures mapper { OnOk result (maker.new.mapper ≡ with_binding (record { id = head.now.id; number = maker.old.view.drawn; slot = slot_of (converted_view made).form }) maker.old.mapper) }
-    ensures shape { is_shape (converted_view made).form ≡ true }
+    ensures mapper { OnOk result (maker.new.mapper ≡ with_binding (record { id = head.now.id; number = maker.old.view.drawn; slot = slot_of (converted_view element.made).form }) maker.old.mapper) }
+    ensures shape { is_shape (converted_view element.made).form ≡ true }
 {
+    let MadeElement { made, content } = element;
     let Converted { shape, layers } = made;
     let node = maker.make(scene.alloc, head.id(), &shape, content)?;
     let layers = element_layers(list, scene, &position, head.name(), layers.as_slice())?;
@@ -281,6 +299,7 @@ pub(crate) fn content<L: Ledger>(
         parent.now path.now maker.old.view.drawn items.now nodes.nodes maker.old.mapper maker.new.mapper) }
     ensures drawn { OnOk result (maker.new.view.drawn ≡ maker.old.view.drawn + elements_among (items_of items.now)) }
     ensures shapes { OnOk result (HaveShapes (conversion_of (λ object. gives (object.vtable, object.value)) list.now) parent.now 0 (items_of items.now)) }
+    ensures calls { steps.new ≤ steps.old + boxed_count (conversion_of (λ object. gives (object.vtable, object.value)) list.now).converters * elements_among (items_of items.now) }
 {
     let mut row = RowWriter::new(scene.alloc);
     let mut offset = 0;
@@ -298,7 +317,11 @@ pub(crate) fn content<L: Ledger>(
                 let here = Here { parent, before };
                 let made = converted_at(list, scene.alloc, here, head, steps)?;
                 let inner = content(list, scene, head.name(), &position, children, maker, steps)?;
-                push_element(list, scene, position, head, made, inner, maker, &mut row)?;
+                let element = MadeElement {
+                    made,
+                    content: inner,
+                };
+                push_element(list, scene, position, head, element, maker, &mut row)?;
                 offset += 1;
                 before += 1;
             }

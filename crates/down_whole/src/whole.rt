@@ -1,15 +1,17 @@
 //! The whole view of a document.
-ghost use Rattle.std.specs.Prelude.{◌≡◌, [], None, OnOk, IfOk, option_map, codes};
+ghost use Rattle.std.specs.Prelude.{◌≡◌, ◌≤◌, ◌+◌, ◌*◌, [], None, length, OnOk, IfOk, option_map, codes};
 ghost use Rattle.view_definitions.specs.Node.{content as content_of};
-ghost use Rattle.conv_rules.specs.Listed.{conversion_of};
+ghost use Rattle.conv_rules.specs.Listed.{boxed_count, conversion_of};
 ghost use Rattle.downcast_definitions.specs.Scene.{Numbers, numbered_scene, caret_of};
 ghost use Rattle.downcast_definitions.specs.Rows.{downcast};
 ghost use Rattle.downcast_definitions.specs.Shown.{HasShapes};
+ghost use Rattle.item_definitions.specs.Item.{items_of};
 ghost use Rattle.document_definitions.specs.Document.{ids_of};
 ghost use Rattle.pos_mapper.specs.Bindings.{numbers_of};
 ghost use Rattle.pos_mapper.specs.Mapped.{IsMapped};
 ghost use Rattle.down_whole.specs.Viewed.{caret_view};
 ghost use Rattle.down_whole.specs.Made.{MadeContent};
+ghost use Rattle.down_whole.specs.Bound.{elements_among, AreBelow};
 ghost use Rattle.down_whole.specs.Numbered.{AreNumbered};
 
 use crate::caret::{Caret, caret_of};
@@ -42,7 +44,8 @@ fn root_name(alloc: Global) -> Result<Name, NoMemory>
 
 /// A view with these nodes in place of its own.
 fn with_nodes(alloc: Global, view: View, nodes: Children) -> View
-    ensures { result.nodes ≡ nodes.nodes }
+    ensures nodes { result.nodes ≡ nodes.nodes }
+    ensures drawn { result.drawn ≡ view.drawn }
 {
     let mut view = view;
     let root = ViewPath::root(alloc);
@@ -65,6 +68,8 @@ fn made<L: Ledger>(
     ensures made { IfOk result (λ both. (numbers : Numbers) → MadeContent (numbered_scene numbers (conversion_of (λ object. gives (object.vtable, object.value)) list.now) document.now.state.document)
         (codes "$root") [] 0 document.now.state.document.items both.0.nodes (record { bindings = []; caret = None }) both.1) }
     ensures shapes { OnOk result (HasShapes (conversion_of (λ object. gives (object.vtable, object.value)) list.now) document.now.state.document) }
+    ensures drawn { IfOk result (λ both. both.0.drawn ≡ elements_among (items_of document.now.state.document.items)) }
+    ensures calls { steps.new ≤ steps.old + boxed_count (conversion_of (λ object. gives (object.vtable, object.value)) list.now).converters * elements_among (items_of document.now.state.document.items) }
 {
     let scene = Scene::new(alloc, list, document.markers(), caret)?;
     let mut maker = Maker {
@@ -87,7 +92,8 @@ fn made<L: Ledger>(
 }
 
 /// The view of a document, as the converters of a list make it, and the mapper of the view. Each element is numbered, and bound to its view
-/// element, also one that the view doesn't show; no two have one number. It answers `NoMemory` alone beside Ok.
+/// element, also one that the view doesn't show; no two have one number. The view has drawn as many numbers as there are elements, and each
+/// that is bound is one of them. For each element each converter of the product is called at most once. It answers `NoMemory` alone beside Ok.
 pub fn downcast<L: Ledger>(
     alloc: Global,
     list: &ConverterList,
@@ -98,6 +104,9 @@ pub fn downcast<L: Ledger>(
     ensures mapper { IfOk result (λ both. IsMapped (conversion_of (λ object. gives (object.vtable, object.value)) list.now) document.now.state.document both.1 both.0.nodes) }
     ensures numbered { IfOk result (λ both. AreNumbered (numbers_of both.1) (ids_of document.now.state.document.items)) }
     ensures shapes { OnOk result (HasShapes (conversion_of (λ object. gives (object.vtable, object.value)) list.now) document.now.state.document) }
+    ensures drawn { IfOk result (λ both. both.0.drawn ≡ length (ids_of document.now.state.document.items)) }
+    ensures below { IfOk result (λ both. AreBelow both.0.drawn (numbers_of both.1)) }
+    ensures calls { steps.new ≤ steps.old + boxed_count (conversion_of (λ object. gives (object.vtable, object.value)) list.now).converters * length (ids_of document.now.state.document.items) }
 {
     let _tree = document.tree();
     let caret = caret_of(alloc, list, document)?;

@@ -7,7 +7,6 @@ pub mod Rows
 pub mod Documents
 pub mod Held
 pub mod Unique
-pub mod Flat
 pub mod Marked
 pub mod PlaceKinds
 pub mod TextPlaces

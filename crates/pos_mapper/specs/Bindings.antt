@@ -21,6 +21,7 @@ pub record CaretPlace : Type 0 where
   pub at : List ℕ
   pub place : List ℕ
 
+-- all bindings in the order in which they were made, and the place of the caret, if there is one
 pub record Mapper : Type 0 where
   pub bindings : List Binding
   pub caret : Option CaretPlace

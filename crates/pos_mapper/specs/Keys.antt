@@ -2,6 +2,7 @@
 use Rattle.std.specs.Prelude.{◌≡◌, ℕ, List, [], ◌∷◌, ◌++◌, Option, None, IsSomeAnd, option_to_list, slice_index_or}
 use Rattle.pos_mapper.specs.Bindings.{Binding}
 
+-- bindings in slots, some of which may be free
 abbrev pub Slots : Type 0
 Slots = List (Option Binding)
 

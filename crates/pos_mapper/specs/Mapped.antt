@@ -23,6 +23,7 @@ abbrev mutual
   uncounted_node (nodes.text scalars) = nodes.text scalars
   uncounted_node (nodes.element head children) = nodes.element (record head { changes = 0 }) (uncounted_nodes children)
 
+  -- nodes as an element has them, each so
   pub uncounted_nodes : ViewNodes → ViewNodes
   uncounted_nodes nodes.none = nodes.none
   uncounted_nodes (nodes.more node rest) = nodes.more (uncounted_node node) (uncounted_nodes rest)
@@ -44,6 +45,7 @@ abbrev mutual
   behind_slot (text scalars) = 0
   behind_slot (element kind name attributes children) = behind_among children
 
+  -- how many nodes stand behind the slot among these nodes
   pub behind_among : {A : Type 0} → Forms A → ℕ
   behind_among none = 0
   behind_among (more form forms) = by_slot (slot_in form) (behind_among forms) (length (list_of forms)) (behind_slot form)
@@ -60,6 +62,7 @@ abbrev mutual
       IsSomeAnd (bound_id id mapper) (λ binding. option_map (λ bound. bound.slot) (bound_number binding.number mapper) ≡ Some (slot_of (shape_at scene.conversion parent before name attributes).form))
       × AreBound mapper scene name 0 children
 
+  -- each of these items is bound so
   pub AreBound : Mapper → Scene → List ℕ → ℕ → Items → Type 0
   AreBound mapper scene parent before items.none = Unit {0}
   AreBound mapper scene parent before (items.more item rest) =

@@ -9,6 +9,7 @@ use Rattle.pos_mapper.specs.Bindings.{Slot, Binding}
 abbrev pub Slots : Type 0
 Slots = ℕ → Option Slot
 
+-- the slots of these bindings, by the numbers of their view elements
 abbrev pub slots_in : List Binding → Slots
 slots_in bindings number = option_and_then (λ binding. binding.slot) (find (λ binding. binding.number == number) bindings)
 
@@ -24,6 +25,7 @@ in_position number = if nat_lt number (2 ^ 32) then Some number else None
 abbrev pub before_node : ℕ → ℕ → List ViewNode → Option ℕ
 before_node offset index nodes = in_position (offset + lengths (take index nodes))
 
+-- the position with this number alone
 abbrev pub only_number : Option ℕ → Option (List ℕ)
 only_number number = option_map (λ offset. offset ∷ []) number
 
@@ -51,11 +53,13 @@ in_slot below depth offset children None = None
 in_slot below depth offset children (Some slot) =
     if nat_lt depth 64 then option_map (λ position. offset ∷ position) (below (depth + 1) slot.place slot.behind 0 children) else None
 
+-- what a place in a node means, by what places below mean
 abbrev pub in_node : Slots → Below → ℕ → List ℕ → ℕ → ℕ → ViewNode → Option (List ℕ)
 in_node slots below depth path last offset (text scalars) = in_text offset (length scalars) path last
 in_node slots below depth path last offset (element head children) =
     by_kind head.kind (below depth [] 0 offset (list_of children)) (in_slot below depth offset (list_of children) (option_and_then slots head.number))
 
+-- what a place in the node with this index means
 abbrev pub in_nodes : Slots → Below → ℕ → List ℕ → ℕ → ℕ → List ViewNode → ℕ → Option (List ℕ)
 in_nodes slots below depth path last offset nodes index =
     option_and_then (λ node. option_and_then (λ before. in_node slots below depth path last before node) (before_node offset index nodes)) (slice_get nodes index)
@@ -79,6 +83,7 @@ read slots depth way behind offset nodes (index ∷ path) last =
     (in_nodes slots (λ levels further more start inner. read slots levels further more start inner path last) depth path last offset)
     (λ further inner. read slots depth further behind offset inner path last)
 
+-- what places mean whose first index is taken off
 abbrev pub reads : Slots → List ℕ → ℕ → Below
 reads slots path last depth way behind offset nodes = read slots depth way behind offset nodes path last
 

@@ -34,6 +34,7 @@ abbrev mutual
   item_in (text scalars) number = Some (text scalars)
   item_in (element head children) number = by_around head.kind (item_among children number) (Some (element head children))
 
+  -- the item of a number among nodes
   pub item_among : ViewNodes → ℕ → Option ViewNode
   item_among none number = None
   item_among (more node nodes) number =
@@ -96,9 +97,11 @@ inside (base ∷ []) behind nodes = Some (content_of base behind nodes)
 inside (step ∷ next ∷ way) behind nodes =
     option_and_then (λ node. option_and_then (λ children. inside (next ∷ way) behind children) (children_of node)) (slice_get nodes step)
 
+-- the slot of a view element, if it has one
 abbrev pub slot_at : Slots → Option ViewNode → Option Slot
 slot_at slots node = option_and_then (λ node. option_and_then slots (number_of node)) node
 
+-- the children of a node, if it is there and is an element
 abbrev pub children_at : Option ViewNode → List ViewNode
 children_at node = option_map_or (λ children. children) (option_and_then children_of node) []
 
@@ -107,6 +110,7 @@ abbrev pub in_content : (ℕ → List ViewNode → List ℕ) → List ℕ → Li
 in_content further outside place way None = outside
 in_content further outside place way (Some inner) = place ++ (parent_of way ++ further (offset_of way) inner)
 
+-- where a position in an item is seen: at the boundary before it where it has no slot
 abbrev pub in_item : (ℕ → List ViewNode → List ℕ) → List ℕ → List ℕ → List ViewNode → Option Slot → List ℕ
 in_item further outside place children None = outside
 in_item further outside place children (Some slot) = in_content further outside place slot.place (inside slot.place slot.behind children)

@@ -1,9 +1,9 @@
 -- One step down a path: what the definitions say where the node at the first index is known to be an element.
-use Rattle.std.proofs.Common.{◌≡◌, ℕ, ◌<◌, zero, suc, List, [], ◌∷◌, Bool, false, ◌||◌, if◌then◌else◌, Option, Some, length, get_or, refl, sym, ap, ◌∙◌, subst, arith}
-use Rattle.std.specs.Prelude.{is_some, slice_get, slice_set, option_and_then}
+use Rattle.std.proofs.Common.{◌≡◌, ℕ, ◌<◌, zero, suc, List, [], ◌∷◌, Option, Some, length, get_or, refl, sym, ap, ◌∙◌, subst, arith}
+use Rattle.std.specs.Prelude.{slice_get, slice_set, option_and_then}
 use Rattle.std.specs.Option.{option_map_or}
 use Rattle.view_definitions.specs.Node.{Head, ViewNode, element, nodes_of, children_of}
-use Rattle.view_definitions.specs.Place.{list_at, at_index, with_inner, put_at, numbered_or, numbered_on, counting, counted_in, counted}
+use Rattle.view_definitions.specs.Place.{list_at, at_index, with_inner, put_at}
 use Rattle.view_tree.proofs.Listed.{listed}
 
 get_within : (nodes : List ViewNode) (index : ℕ) (d : ViewNode) → index < length nodes → slice_get nodes index ≡ Some (get_or nodes index d)
@@ -31,16 +31,3 @@ module _ (items nodes : List ViewNode) (index : ℕ) (rest path : List ℕ) (hea
   put_step new made h =
       set_step (with_inner (put_at rest new)) (element head (nodes_of made)) (ap (λ list. element head (nodes_of list)) (h ∙ ap (put_at rest new) (sym (listed inner))))
       ∙ ap (λ p. put_at p new nodes) (sym is)
-
-  pub number_step : (below : Bool) → below ≡ numbered_on rest inner → (below || is_some head.number) ≡ numbered_on path nodes
-  number_step below h =
-      ap (λ b. b || is_some head.number) (h ∙ ap (numbered_on rest) (sym (listed inner)))
-      ∙ ap (λ node. option_map_or (numbered_or (numbered_on rest)) node false) (sym at)
-      ∙ ap (λ p. numbered_on p nodes) (sym is)
-
-  pub count_step : (below : Bool) (new_head : Head) (made : List ViewNode) → below ≡ numbered_on rest inner → new_head ≡ (if below then head else counting head) → made ≡ counted rest inner → slice_set items index (element new_head (nodes_of made)) ≡ counted path nodes
-  count_step below new_head made b n h =
-      let kids = listed inner in
-      set_step (counted_in (numbered_on rest) (counted rest)) (element new_head (nodes_of made))
-      (λ i. element ((n ∙ ap (λ t. if t then head else counting head) (b ∙ ap (numbered_on rest) (sym kids))) i) (nodes_of ((h ∙ ap (counted rest) (sym kids)) i)))
-      ∙ ap (λ p. counted p nodes) (sym is)

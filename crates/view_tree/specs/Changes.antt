@@ -4,6 +4,7 @@ use Rattle.view_definitions.specs.Node.{ViewNode, text, element, list_of, nodes_
 use Rattle.view_definitions.specs.Layer.{Layer, layer_of}
 use Rattle.view_definitions.specs.Place.{counting, list_at, changed}
 
+-- the node is an element
 abbrev pub IsElement : ViewNode → Type 0
 IsElement (text scalars) = ⊥
 IsElement (element head children) = Unit {0}
@@ -72,6 +73,7 @@ abbrev pub filled_list : List ViewNode → List ViewNode → Option (List ViewNo
 filled_list new [] = Some new
 filled_list new (node ∷ nodes) = None
 
+-- the nodes with these ones in the list at a path: None where it has nodes, or no element stands there
 abbrev pub filled : List ℕ → List ViewNode → List ViewNode → Option (List ViewNode)
 filled path new nodes = option_and_then (λ list. option_map (λ made. changed path made nodes) (filled_list new list)) (list_at path nodes)
 

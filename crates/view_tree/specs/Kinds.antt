@@ -6,12 +6,14 @@ use Rattle.view_tree.specs.declared.kind.NodeKind.{NodeKind}
 use Rattle.view_tree.specs.declared.kind.NodeKind.TheVariants.{Text, Element}
 use Rattle.view_definitions.specs.Node.{Kind, container, attribute, empty, ui, ViewNode, text, element, none}
 
+-- what kind of element it is, as the definitions have it
 abbrev pub kind_of : ElementKind → Kind
 kind_of Container = container
 kind_of (Attribute priority id) = attribute priority id
 kind_of Empty = empty
 kind_of Ui = ui
 
+-- whether a node of this kind is an element
 abbrev pub is_element : NodeKind → Bool
 is_element (Text scalars) = false
 is_element (Element kind name attrs) = true

@@ -9,6 +9,7 @@ pub record NodeList : Type 0 where
   pub nodes : List ViewNode
   pub spare : ℕ
 
+-- a code for lists of nodes
 abbrev pub coded_node_list : Coded NodeList
 coded_node_list =
     code_by (List ViewNode × ℕ) (coded× coded_nodes coded_ℕ) (λ list. (list.nodes, list.spare)) (λ parts. record { nodes = parts.0; spare = parts.1 }) (λ _. refl)

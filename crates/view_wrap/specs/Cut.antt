@@ -9,10 +9,12 @@ abbrev mutual
   entries_in (text scalars) = length scalars
   entries_in (element head children) = if is_some (layer_of head) then entries_inner children else 1
 
+  -- and all nodes in a list, as an element has it
   pub entries_inner : ViewNodes → ℕ
   entries_inner none = 0
   entries_inner (more node nodes) = entries_in node + entries_inner nodes
 
+-- and all nodes of a list
 abbrev pub entries_of : List ViewNode → ℕ
 entries_of [] = 0
 entries_of (node ∷ nodes) = entries_in node + entries_of nodes
@@ -39,6 +41,7 @@ abbrev mutual
   cut_node at (text scalars) = (text (take at scalars) ∷ [], text (drop at scalars) ∷ [])
   cut_node at (element head children) = cut_element (layer_of head) head children (cut_inner at children)
 
+  -- nodes as an element has them, broken so
   pub cut_inner : ℕ → ViewNodes → Parts
   cut_inner at none = ([], [])
   cut_inner at (more node nodes) =
@@ -58,6 +61,7 @@ abbrev pub place_before : Bool → ℕ → ℕ × ℕ → ℕ × ℕ
 place_before true at rest = (suc rest.0, rest.1)
 place_before false at rest = (0, at)
 
+-- how many nodes of a list stand as a whole before an entry, and how many entries stand behind them before it
 abbrev pub place_of : ℕ → List ViewNode → ℕ × ℕ
 place_of at [] = (0, at)
 place_of at (node ∷ nodes) = place_before (nat_le (entries_in node) at) at (place_of (at - entries_in node) nodes)

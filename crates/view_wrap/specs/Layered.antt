@@ -15,10 +15,12 @@ wrapped_element layer (Some other) head children inner =
     by_order (layer_cmp other layer) (element head (nodes_of inner)) (element head children) (in_layer layer (element head children ∷ []))
 
 abbrev mutual
+  -- a node with a layer around what is in it
   pub wrapped_node : Layer → ViewNode → ViewNode
   wrapped_node layer (text scalars) = in_layer layer (text scalars ∷ [])
   wrapped_node layer (element head children) = wrapped_element layer (layer_of head) head children (wrapped_inner layer children)
 
+  -- nodes as an element has them, each so
   pub wrapped_inner : Layer → ViewNodes → List ViewNode
   wrapped_inner layer none = []
   wrapped_inner layer (more node nodes) = join (wrapped_node layer node ∷ []) (wrapped_inner layer nodes)
@@ -34,10 +36,12 @@ unwrapped_element layer None head children inner = element head children ∷ []
 unwrapped_element layer (Some other) head children inner = if same_layer layer other then inner else element head (nodes_of inner) ∷ []
 
 abbrev mutual
+  -- a node without the layer
   pub unwrapped_node : Layer → ViewNode → List ViewNode
   unwrapped_node layer (text scalars) = text scalars ∷ []
   unwrapped_node layer (element head children) = unwrapped_element layer (layer_of head) head children (unwrapped_inner layer children)
 
+  -- nodes as an element has them, each so
   pub unwrapped_inner : Layer → ViewNodes → List ViewNode
   unwrapped_inner layer none = []
   unwrapped_inner layer (more node nodes) = join (unwrapped_node layer node) (unwrapped_inner layer nodes)
