@@ -1,3 +1,4 @@
 pub mod Faults
 pub mod SchemaForm
 pub mod Settings
+pub mod Converting
