@@ -31,6 +31,7 @@ abbrev pub lists_path : Spot → List ℕ → Bool
 lists_path (Run parent start end) path = is_in_run parent start end path
 lists_path (Subtree outer) path = is_within outer path
 
+-- whether some spot lists an item
 abbrev pub is_listed : List Spot → Placed → Bool
 is_listed spots placed = list_any (λ spot. lists_path spot placed.path) spots
 

@@ -39,7 +39,7 @@ use Rattle.converter_read.specs.PlanNames.{is_bare, is_unconditional, converts, 
 use Rattle.json_forms.specs.declared.fault.FormFault.{FormFault}
 use Rattle.settings_definitions.specs.declared.fault.SettingsFault.{SettingsFault}
 use Rattle.settings_definitions.specs.declared.fault.SettingsFault.TheVariants.{TwiceRegistered, UnknownItem, BadCheck, UnknownCustom, NoConverter}
-use Rattle.settings_definitions.specs.Settings.{Form as FileForm, rules_of, items_of, unknown_start, converters_refusal, refusal_of, Settled, settled_form, unless_refused, settled, form_of, settings_of}
+use Rattle.settings_definitions.specs.Settings.{Form as FileForm, rules_of, items_of, unknown_start, converters_refusal, refusal_of, Settings, settings_in, unless_refused, settings_from, form_of, settings_of}
 use Rattle.settings_definitions.specs.Converting.{Serves, AllConverted}
 use Rattle.settings_definitions.proofs.Shaped.{shaped}
 
@@ -153,7 +153,7 @@ converts_each handed_in form fine conversion serves items obeys path id name att
     shaped conversion (record { name = name; attributes = attributes; parent = parent; index = index }) (stock shape.converter) shape.form serves.lawful
     (serves.listed unconditional.plan shape.converter unconditional.there shape.is) shape.gives
 
-pub accepted_convert : (handed_in : List (List ℕ)) (bytes : List ℕ) (settings : Settled) → settings_of handed_in bytes ≡ Ok settings
+pub accepted_convert : (handed_in : List (List ℕ)) (bytes : List ℕ) (settings : Settings) → settings_of handed_in bytes ≡ Ok settings
     → (conversion : Conversion) → Serves settings.converters conversion → (items : List Item) → breach settings.rules items ≡ None → AllConverted conversion items
 unfolding settings_of
 accepted_convert handed_in bytes settings e = go (form_of bytes) e
@@ -161,11 +161,11 @@ accepted_convert handed_in bytes settings e = go (form_of bytes) e
     by : (form : FileForm) (reason : Option SettingsFault) → refusal_of handed_in form ≡ reason → unless_refused form reason ≡ Ok settings
         → (conversion : Conversion) → Serves settings.converters conversion → (items : List Item) → breach settings.rules items ≡ None → AllConverted conversion items
     by form None r f =
-        let same : settled_form form ≡ settings = cc in
+        let same : settings_in form ≡ settings = cc in
         subst (λ s. (conversion : Conversion) → Serves s.converters conversion → (items : List Item) → breach s.rules items ≡ None → AllConverted conversion items) same (converts_each handed_in form (accepted handed_in form r))
     by form (Some fault) r f = cc
 
-    go : (form : Result FileForm FormFault) → settled handed_in form ≡ Ok settings
+    go : (form : Result FileForm FormFault) → settings_from handed_in form ≡ Ok settings
         → (conversion : Conversion) → Serves settings.converters conversion → (items : List Item) → breach settings.rules items ≡ None → AllConverted conversion items
     go (Err fault) f = cc
     go (Ok form) f = by form (refusal_of handed_in form) refl f
