@@ -1,1 +1,3 @@
-mod Listed
+pub mod Placed
+pub mod Broken
+pub mod AllButOne

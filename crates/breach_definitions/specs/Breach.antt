@@ -24,6 +24,7 @@ abbrev mutual
   placed_item ancestors path (character scalar attributes) = record { ancestors = ancestors; path = path; item = character scalar attributes } ∷ []
   placed_item ancestors path (element id name attributes children) = record { ancestors = ancestors; path = path; item = element id name attributes children } ∷ placed_inner (ancestors ++ name ∷ []) path 0 children
 
+  -- the items of a list from this index on, each with all that is in it
   pub placed_inner : List (List ℕ) → List ℕ → ℕ → Items → List Placed
   placed_inner ancestors path index none = []
   placed_inner ancestors path index (more item items) = placed_item ancestors (path ++ index ∷ []) item ++ placed_inner ancestors path (index + 1) items

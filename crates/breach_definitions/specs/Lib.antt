@@ -1,2 +1,4 @@
 pub mod Breach
 pub mod Spots
+pub mod Obeys
+pub mod Sample

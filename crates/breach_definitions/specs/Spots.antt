@@ -1,9 +1,8 @@
 -- The first breach among some items of a document.
-use Rattle.std.specs.Prelude.{ℕ, ◌≤◌, List, [], ◌∷◌, Bool, true, false, ◌&&◌, ◌==◌, nat_le, nat_lt, Option, Some, None, IsSome}
+use Rattle.std.specs.Prelude.{ℕ, List, [], ◌∷◌, Bool, true, false, ◌&&◌, ◌==◌, nat_le, nat_lt, Option}
 use Rattle.std.specs.List.{list_any, filter}
 use Rattle.ck_base.specs.declared.faults.Rule.{Rule}
 use Rattle.item_definitions.specs.Item.{Item}
-use Rattle.item_definitions.specs.Children.{child_count}
 use Rattle.schema_definitions.specs.Allowed.{Rules}
 use Rattle.breach_definitions.specs.declared.spot.Spot.{Spot}
 use Rattle.breach_definitions.specs.declared.spot.Spot.TheVariants.{Run, Subtree}
@@ -32,22 +31,10 @@ abbrev pub lists_path : Spot → List ℕ → Bool
 lists_path (Run parent start end) path = is_in_run parent start end path
 lists_path (Subtree outer) path = is_within outer path
 
+-- whether some spot lists an item
 abbrev pub is_listed : List Spot → Placed → Bool
 is_listed spots placed = list_any (λ spot. lists_path spot placed.path) spots
 
 -- the first breach, in document order, among the listed items
 unfoldable pub breach_at : Rules → List Item → List Spot → Option (Rule × List ℕ)
 breach_at rules items spots = first_some (breach_of rules) (filter (is_listed spots) (placed_items items))
-
--- a spot is in a tree: a run ends where its element does or before and doesn't begin behind its end; a subtree is an element other than the root
-abbrev pub IsRunIn : Option ℕ → ℕ → ℕ → Type 0
-IsRunIn None start end = ⊥
-IsRunIn (Some count) start end = (start ≤ end) × (end ≤ count)
-
-abbrev pub IsInside : List Item → List ℕ → Type 0
-IsInside items [] = ⊥
-IsInside items (index ∷ path) = IsSome (child_count items (index ∷ path))
-
-abbrev pub IsSpotIn : List Item → Spot → Type 0
-IsSpotIn items (Run parent start end) = IsRunIn (child_count items parent) start end
-IsSpotIn items (Subtree path) = IsInside items path

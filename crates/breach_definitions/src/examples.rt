@@ -9,6 +9,8 @@ ghost use Rattle.schema_definitions.specs.Sample.{sample};
 ghost use Rattle.breach_definitions.specs.declared.spot.Spot.TheVariants.{Run, Subtree};
 ghost use Rattle.breach_definitions.specs.Breach.{breach};
 ghost use Rattle.breach_definitions.specs.Spots.{breach_at};
+ghost use Rattle.breach_definitions.specs.Obeys.{OthersObey};
+ghost use Rattle.breach_definitions.specs.Sample.{second_is_bold};
 
 /// Documents that obey the sample's schema, and the first place that doesn't.
 fn documents()
@@ -24,6 +26,13 @@ fn documents()
 fn quotes()
     ensures third { breach sample (element 1 (codes "quote") [] (more (element 2 (codes "quote") [] (more (element 3 (codes "quote") [] none) none)) none) ∷ [])
         ≡ Some (Child (codes "quote") (codes "quote"), 0 ∷ 0 ∷ 0 ∷ []) }
+{}
+
+/// Where the one item that isn't allowed is listed, the listed items suffice.
+fn listed_items()
+    ensures others { OthersObey sample second_is_bold (Run [] 1 2 ∷ []) }
+    ensures listed { breach_at sample second_is_bold (Run [] 1 2 ∷ []) ≡ Some (Attribute (codes "bold") (codes "paragraph"), 1 ∷ []) }
+    ensures all { breach sample second_is_bold ≡ Some (Attribute (codes "bold") (codes "paragraph"), 1 ∷ []) }
 {}
 
 /// What spots list.

@@ -3,5 +3,5 @@
 #![tactic(auto)]
 
 mod examples;
-mod laws;
+pub mod laws;
 pub mod spot;

@@ -2,6 +2,7 @@
 use Rattle.config_read.specs.declared.file_form.FileForm.{FileForm}
 use Rattle.settings_definitions.specs.Settings.{Form}
 
+-- what was read of a file, as the definitions see it
 abbrev pub form_view : FileForm → Form
 form_view form = record {
   version = form.version;

@@ -1,4 +1,3 @@
 pub mod FileForm
 pub mod Ordered
 pub mod Refused
-pub mod Texts

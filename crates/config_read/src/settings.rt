@@ -31,7 +31,7 @@ pub struct Settings {
 }
 
 /// The settings of what a file says, of its schema and of the names of the elements that are counted.
-fn settled(form: FileForm, schema: Schema, indexed: Vec<Name>) -> Settings
+fn settings_from(form: FileForm, schema: Schema, indexed: Vec<Name>) -> Settings
     ensures schema { result.schema ≡ schema }
     ensures version { result.version ≡ form.version }
     ensures rounds { result.rounds ≡ form.rounds }
@@ -70,5 +70,5 @@ pub fn read_settings(
     let form = form_of(alloc, bytes)?;
     let schema = schema_of(alloc, converters, &form)?;
     let indexed = indexed_names(alloc, form.converters.as_slice())?;
-    Ok(settled(form, schema, indexed))
+    Ok(settings_from(form, schema, indexed))
 }

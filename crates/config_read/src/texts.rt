@@ -1,6 +1,6 @@
 //! The printed texts of the faults of settings.
 ghost use Rattle.std.specs.Prelude.{◌≡◌, ◌≢◌, IfOk, string_bytes};
-ghost use Rattle.config_read.specs.Texts.{settings_text};
+ghost use Rattle.settings_definitions.specs.Texts.{settings_text};
 
 use ck_base::NoMemory;
 use settings_definitions::fault::SettingsFault;
@@ -8,7 +8,7 @@ use std::alloc::Global;
 use text_escapes::escapes::quoted_text;
 
 /// The text of a fault: its name, and its field behind a blank. It answers `NoMemory` alone beside Ok.
-#[tactic(auto, unfolding(crate::specs::Texts::settings_text))]
+#[tactic(auto, unfolding(settings_definitions::specs::Texts::settings_text))]
 pub fn settings_text(alloc: Global, fault: &SettingsFault) -> Result<String, NoMemory>
     requires { fault.now ≢ SettingsFault.NoMemory }
     ensures { IfOk result (λ text. string_bytes text ≡ settings_text fault.now) }

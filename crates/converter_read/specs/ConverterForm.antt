@@ -41,6 +41,7 @@ stock_plan priority converter = record { priority = priority; entry = Stock conv
 unfoldable pub only_element_fields : List ℕ → Data → Result ⊤ FormFault
 only_element_fields path d = only_fields path (codes "kind" ∷ codes "model" ∷ codes "attributes" ∷ codes "parent" ∷ codes "view" ∷ codes "priority" ∷ []) d
 
+-- a converter of the kind `elementToElement`
 unfoldable pub element_converter_at : Bool → List ℕ → Data → Result ConverterPlan FormFault
 element_converter_at indexes path d = do
   model ← name_field path (codes "model") d
@@ -51,6 +52,7 @@ element_converter_at indexes path d = do
   _ ← only_element_fields path d
   Ok (stock_plan priority (ElementToElement model attributes parent view))
 
+-- a converter of the kind `elementToStructure`
 unfoldable pub structure_converter_at : Bool → List ℕ → Data → Result ConverterPlan FormFault
 structure_converter_at indexes path d = do
   model ← name_field path (codes "model") d
@@ -68,6 +70,7 @@ optional_value path name d = value_if (get name d) where
   value_if None = Ok None
   value_if (Some found) = value_at (field_path path name) found >>= λ value. Ok (Some value)
 
+-- a converter of the kind `attributeToElement`
 unfoldable pub layer_converter_at : List ℕ → Data → Result ConverterPlan FormFault
 layer_converter_at path d = do
   model ← name_field path (codes "model") d
@@ -97,6 +100,7 @@ element_field indexes path d = do
     named_if None false = Ok None
     named_if None true = Err (BadField (field_path path (codes "element")))
 
+-- a converter of the kind `attributeToAttribute`
 unfoldable pub attribute_converter_at : Bool → List ℕ → Data → Result ConverterPlan FormFault
 attribute_converter_at indexes path d = do
   element ← element_field indexes path d
@@ -111,6 +115,7 @@ attribute_converter_at indexes path d = do
 unfoldable pub only_marker_fields : List ℕ → Data → Result ⊤ FormFault
 only_marker_fields path d = only_fields path (codes "kind" ∷ codes "marker" ∷ codes "view" ∷ codes "priority" ∷ []) d
 
+-- a converter of the kind `markerToHighlight`
 unfoldable pub highlight_converter_at : List ℕ → Data → Result ConverterPlan FormFault
 highlight_converter_at path d = do
   marker ← name_field path (codes "marker") d
@@ -119,6 +124,7 @@ highlight_converter_at path d = do
   _ ← only_marker_fields path d
   Ok (stock_plan priority (MarkerToHighlight marker view))
 
+-- a converter of the kind `markerToElement`
 unfoldable pub leaf_converter_at : List ℕ → Data → Result ConverterPlan FormFault
 leaf_converter_at path d = do
   marker ← name_field path (codes "marker") d
@@ -135,12 +141,15 @@ index_field indexes path d = if indexes then optional_name path (codes "index") 
 unfoldable pub only_indexed_fields : List ℕ → Data → Result ⊤ FormFault
 only_indexed_fields path d = only_fields path (codes "kind" ∷ codes "name" ∷ codes "priority" ∷ codes "index" ∷ []) d
 
+-- and those where they may not
 unfoldable pub only_plain_fields : List ℕ → Data → Result ⊤ FormFault
 only_plain_fields path d = only_fields path (codes "kind" ∷ codes "name" ∷ codes "priority" ∷ []) d
 
+-- that a product's converter has no other fields
 unfoldable pub only_custom_fields : Bool → List ℕ → Data → Result ⊤ FormFault
 only_custom_fields indexes path d = if indexes then only_indexed_fields path d else only_plain_fields path d
 
+-- a converter of a product, of the kind `custom`
 unfoldable pub custom_converter_at : Bool → List ℕ → Data → Result ConverterPlan FormFault
 custom_converter_at indexes path d = do
   name ← name_field path (codes "name") d
@@ -159,6 +168,7 @@ kind_of word = if bytes_eq word (codes "elementToElement") then Some Element
     else (if bytes_eq word (codes "markerToElement") then Some Leaf
     else (if bytes_eq word (codes "custom") then Some Custom else None))))))
 
+-- the field `kind`
 unfoldable pub kind_field : List ℕ → Data → Result ConverterKind FormFault
 kind_field path d = or_bad (field_path path (codes "kind")) (option_and_then kind_of (option_and_then as_str (get (codes "kind") d)))
 
@@ -172,6 +182,7 @@ kind_converter_at Highlight indexes path d = highlight_converter_at path d
 kind_converter_at Leaf indexes path d = leaf_converter_at path d
 kind_converter_at Custom indexes path d = custom_converter_at indexes path d
 
+-- a converter: the field `kind` first, and then those of its kind
 unfoldable pub converter_at : Bool → List ℕ → Data → Result ConverterPlan FormFault
 converter_at indexes path d = do
   _ ← object_at path d

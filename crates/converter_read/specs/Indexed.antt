@@ -21,6 +21,7 @@ abbrev mutual
   form_has_index (text scalars) = false
   form_has_index (element kind name attributes children) = has_index attributes || forms_have_index children
 
+  -- and that of one of an element in some nodes
   pub forms_have_index : Forms Patterns → Bool
   forms_have_index none = false
   forms_have_index (more form forms) = form_has_index form || forms_have_index forms

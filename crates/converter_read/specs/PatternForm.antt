@@ -16,6 +16,7 @@ use Rattle.converter_definitions.specs.declared.pattern.Pattern.{Pattern}
 use Rattle.converter_definitions.specs.declared.pattern.Pattern.TheVariants.{Text, From, Index}
 use Rattle.converter_definitions.specs.Pattern.{Patterns}
 
+-- the pattern of an attribute's value, `{"from":KEY}`
 unfoldable pub from_pattern : List ℕ → Data → Result Pattern FormFault
 from_pattern path d = do
   key ← name_field path (codes "from") d

@@ -14,6 +14,7 @@ use Rattle.converter_read.specs.declared.plan.PlanEntry.TheVariants.{Stock, Boxe
 abbrev pub unless_known : List (List ℕ) → List ℕ → Option (List ℕ)
 unless_known known name = if has known name then None else Some name
 
+-- and of a name that may be there
 abbrev pub unless_all_known : List (List ℕ) → Option (List ℕ) → Option (List ℕ)
 unless_all_known known None = None
 unless_all_known known (Some name) = unless_known known name
@@ -39,6 +40,7 @@ abbrev pub is_custom : PlanEntry → List ℕ → Bool
 is_custom (Stock converter) name = false
 is_custom (Boxed custom index) name = bytes_eq custom name
 
+-- whether one of some converters is the product's of this name
 abbrev pub uses : List ConverterPlan → List ℕ → Bool
 uses plans name = list_any (λ plan. is_custom plan.entry name) plans
 
@@ -52,6 +54,7 @@ abbrev pub unknown_custom_from : List (List ℕ) → List ConverterPlan → List
 unknown_custom_from handed_in before [] = None
 unknown_custom_from handed_in before (plan ∷ plans) = option_or (unknown_custom handed_in before plan.entry) (unknown_custom_from handed_in (before ++ plan ∷ []) plans)
 
+-- the first name of a product's converter that wasn't handed in, or that a converter before it has
 abbrev pub first_unknown_custom : List (List ℕ) → List ConverterPlan → Option (List ℕ)
 first_unknown_custom handed_in plans = unknown_custom_from handed_in [] plans
 
@@ -71,6 +74,7 @@ is_unconditional (Stock (MarkerToHighlight marker view)) name = false
 is_unconditional (Stock (MarkerToElement marker view)) name = false
 is_unconditional (Boxed custom index) name = false
 
+-- whether some converter makes an element of each element of this name
 abbrev pub converts : List ConverterPlan → List ℕ → Bool
 converts plans name = list_any (λ plan. is_unconditional plan.entry name) plans
 

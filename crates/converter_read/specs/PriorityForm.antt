@@ -8,6 +8,7 @@ use Rattle.ck_base.specs.Priority.{is_priority, priority_word}
 use Rattle.json_forms.specs.declared.fault.FormFault.{FormFault}
 use Rattle.json_forms.specs.Form.{or_bad, field_path}
 
+-- a level that is a priority
 abbrev pub kept_level : ℤ → Option ℤ
 kept_level level = if is_priority level then Some level else None
 
@@ -24,12 +25,14 @@ priority_of (string word) = priority_word word
 priority_of (array items) = None
 priority_of (object fields) = None
 
+-- the field `priority` of a converter. (After `PriorityString` of CKEditor 5's utilities.)
 unfoldable pub priority_field : List ℕ → Data → Result ℤ FormFault
 priority_field path d = priority_if (get (codes "priority") d) where
   priority_if : Option Data → Result ℤ FormFault
   priority_if None = Ok (pos 0)
   priority_if (Some found) = or_bad (field_path path (codes "priority")) (priority_of found)
 
+-- the field `priority` of an attribute element. (After `AttributeElement.priority` of CKEditor 5's view.)
 unfoldable pub layer_priority_field : List ℕ → Data → Result ℤ FormFault
 layer_priority_field path d = level_if (get (codes "priority") d) where
   level_if : Option Data → Result ℤ FormFault

@@ -17,6 +17,7 @@ use Rattle.converter_read.specs.Indexed.{indexed_names}
 abbrev pub converter_in : Bool → List ℕ → Result ConverterPlan FormFault
 converter_in indexes text = json_of text >>= converter_at indexes []
 
+-- a list of converters
 abbrev pub converters_in : Bool → List ℕ → Result (List ConverterPlan) FormFault
 converters_in indexes text = do
   d ← json_of text
@@ -33,8 +34,10 @@ counted_in text = do
 abbrev pub pattern_in : Bool → List ℕ → Result Pattern FormFault
 pattern_in indexes text = json_of text >>= pattern_at indexes []
 
+-- a shape
 abbrev pub shape_in : Bool → List ℕ → Result (Form Patterns) FormFault
 shape_in indexes text = json_of text >>= shape_at indexes []
 
+-- the priority of an object
 abbrev pub priority_in : List ℕ → Result ℤ FormFault
 priority_in text = json_of text >>= priority_field []

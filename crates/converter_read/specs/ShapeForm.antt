@@ -27,10 +27,12 @@ abbrev pub takes_slot : Option ShapeKind → Bool
 takes_slot None = false
 takes_slot (Some parent) = may_hold_slot parent
 
+-- whether a text may stand there
 abbrev pub takes_text : Option ShapeKind → Bool
 takes_text None = false
 takes_text (Some parent) = may_hold_text parent
 
+-- whether an element of this kind may stand there
 abbrev pub takes_element : Option ShapeKind → ShapeKind → Bool
 takes_element None Container = true
 takes_element None Empty = false
@@ -45,9 +47,11 @@ stands path taken levels before = if taken && nat_lt 0 levels && nat_lt before.n
 unfoldable pub behind : Form Patterns → Before → Before
 behind form before = record { nodes = before.nodes + form_count form; slots = before.slots + slot_count form }
 
+-- behind a list of nodes
 unfoldable pub behind_all : List (Form Patterns) → Before → Before
 behind_all forms before = record { nodes = before.nodes + inner_count (forms_of forms); slots = before.slots + inner_slots (forms_of forms) }
 
+-- before the first child of an element
 unfoldable pub inside : Before → Before
 inside before = record { nodes = before.nodes + 1; slots = before.slots }
 
@@ -63,6 +67,7 @@ nodes_at reader parent before path index (item d rest) = do
   others ← nodes_at reader parent (behind form before) path (index + 1) rest
   Ok (form ∷ others)
 
+-- the children of an element by the field `children`: none where it isn't there
 abbrev pub children_if : Reader → Option ShapeKind → Before → List ℕ → Option Data → Result (List (Form Patterns)) FormFault
 children_if reader parent before path None = Ok []
 children_if reader parent before path (Some found) = or_bad path (as_array found) >>= nodes_at reader parent before path 0
@@ -77,6 +82,7 @@ slot_field path d = do
   truth ← truth_field path (codes "slot") d
   if truth then Ok tt else Err (BadField (field_path path (codes "slot")))
 
+-- a slot
 unfoldable pub slot_at : ℕ → Option ShapeKind → Before → List ℕ → Data → Result (Form Patterns) FormFault
 slot_at levels parent before path d = do
   _ ← slot_field path d
@@ -84,6 +90,7 @@ slot_at levels parent before path d = do
   _ ← only_fields path (codes "slot" ∷ []) d
   Ok slot
 
+-- a text
 unfoldable pub text_at : ℕ → Option ShapeKind → Before → List ℕ → List ℕ → Result (Form Patterns) FormFault
 text_at levels parent before path scalars = do
   _ ← stands path (takes_text parent) levels before
@@ -95,6 +102,7 @@ kind_of_type word = if bytes_eq word (codes "container") then Some Container
     else (if bytes_eq word (codes "empty") then Some Empty
     else (if bytes_eq word (codes "ui") then Some Ui else None))
 
+-- the field `type` of a node: a container where it isn't there
 unfoldable pub type_field : List ℕ → Data → Result ShapeKind FormFault
 type_field path d = type_if (get (codes "type") d) where
   type_if : Option Data → Result ShapeKind FormFault
@@ -109,6 +117,7 @@ head_at indexes path d = do
   attributes ← patterns_field indexes path (codes "attributes") d
   Ok (record { kind = kind; name = name; attributes = attributes })
 
+-- an element: its own fields, then its place, then its children, and then any other field
 unfoldable pub element_at : Bool → Reader → ℕ → Option ShapeKind → Before → List ℕ → Data → Result (Form Patterns) FormFault
 element_at indexes reader levels parent before path d = do
   head ← head_at indexes path d
@@ -135,6 +144,7 @@ node_of indexes reader levels parent before path (object fields) = object_node_a
 abbrev pub no_reader : Reader
 no_reader parent before path d = Err (BadField path)
 
+-- a node on a level below which so many are left
 unfoldable pub node_at : Bool → ℕ → Reader
 node_at indexes zero = node_of indexes no_reader 0
 node_at indexes (suc levels) = node_of indexes (node_at indexes levels) (suc levels)

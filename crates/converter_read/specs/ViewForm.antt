@@ -25,12 +25,14 @@ use Rattle.converter_read.specs.PriorityForm.{layer_priority_field}
 abbrev pub is_empty_type : List ℕ → Option Bool
 is_empty_type word = if bytes_eq word (codes "container") then Some false else (if bytes_eq word (codes "empty") then Some true else None)
 
+-- the field `type`: a container where it isn't there
 unfoldable pub empty_type_field : List ℕ → Data → Result Bool FormFault
 empty_type_field path d = type_if (get (codes "type") d) where
   type_if : Option Data → Result Bool FormFault
   type_if None = Ok false
   type_if (Some found) = or_bad (field_path path (codes "type")) (option_and_then is_empty_type (as_str found))
 
+-- an element of the view
 unfoldable pub element_view_at : Bool → List ℕ → Data → Result ElementView FormFault
 element_view_at indexes path d = do
   _ ← object_at path d
@@ -44,6 +46,7 @@ element_view_at indexes path d = do
 unfoldable pub only_layer_fields : List ℕ → Data → Result ⊤ FormFault
 only_layer_fields path d = only_fields path (codes "name" ∷ codes "attributes" ∷ codes "priority" ∷ codes "id" ∷ []) d
 
+-- an attribute element
 unfoldable pub layer_view_at : List ℕ → Data → Result LayerView FormFault
 layer_view_at path d = do
   _ ← object_at path d
@@ -61,6 +64,7 @@ optional_pattern indexes path name d = pattern_if (get name d) where
   pattern_if None = Ok None
   pattern_if (Some found) = pattern_at indexes (field_path path name) found >>= λ pattern. Ok (Some pattern)
 
+-- an attribute of the view
 unfoldable pub attribute_view_at : Bool → List ℕ → Data → Result AttributeView FormFault
 attribute_view_at indexes path d = do
   _ ← object_at path d
@@ -75,6 +79,7 @@ highlight_name_field path d = do
   name ← optional_name path (codes "name") d
   Ok (unwrap_or name (codes "span"))
 
+-- the attribute element of a marker
 unfoldable pub highlight_view_at : List ℕ → Data → Result HighlightView FormFault
 highlight_view_at path d = do
   _ ← object_at path d
@@ -85,6 +90,7 @@ highlight_view_at path d = do
   _ ← only_layer_fields path d
   Ok (record { name = name; attributes = attributes; priority = priority; id = id })
 
+-- the UI element of a marker
 unfoldable pub leaf_at : List ℕ → Data → Result Leaf FormFault
 leaf_at path d = do
   _ ← object_at path d

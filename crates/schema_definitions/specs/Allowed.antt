@@ -11,6 +11,8 @@ use Rattle.schema_definitions.specs.Names.{has, in_order}
 use Rattle.schema_definitions.specs.Entries.{item_of, registers}
 use Rattle.schema_definitions.specs.Rules.{stands_in, may_have, has_flag}
 
+-- what a schema is made from: all entries, the predefined ones among them, and the checks. (After `Schema.register`, `extend`, `addChildCheck` and
+-- `addAttributeCheck` of CKEditor 5's engine.)
 pub record Rules : Type 0 where
   pub entries : List Entry
   pub checks : List Check
@@ -19,9 +21,11 @@ pub record Rules : Type 0 where
 abbrev pub registrations : List Entry → List (List ℕ)
 registrations entries = map item_of (filter registers entries)
 
+-- whether an item is registered. (After `Schema.isRegistered`.)
 abbrev pub is_registered : Rules → List ℕ → Bool
 is_registered rules name = has (registrations rules.entries) name
 
+-- the registered items in the order of their bytes, each once
 unfoldable pub registered : Rules → List (List ℕ)
 registered rules = in_order (registrations rules.entries)
 
@@ -29,21 +33,27 @@ registered rules = in_order (registrations rules.entries)
 abbrev pub is_block : Rules → List ℕ → Bool
 is_block rules item = has_flag rules.entries Block item
 
+-- whether an item is inline. (After `Schema.isInline`.)
 abbrev pub is_inline : Rules → List ℕ → Bool
 is_inline rules item = has_flag rules.entries Inline item
 
+-- whether an item is an object: its flag is set, or it is a limit, selectable and content. (After `Schema.isObject`.)
 abbrev pub is_object : Rules → List ℕ → Bool
 is_object rules item = has_flag rules.entries Object item || (has_flag rules.entries Limit item && has_flag rules.entries Selectable item && has_flag rules.entries Content item)
 
+-- whether an item is a limit: its flag is set, or it is an object. (After `Schema.isLimit`.)
 abbrev pub is_limit : Rules → List ℕ → Bool
 is_limit rules item = has_flag rules.entries Limit item || is_object rules item
 
+-- whether an item is selectable: its flag is set, or it is an object. (After `Schema.isSelectable`.)
 abbrev pub is_selectable : Rules → List ℕ → Bool
 is_selectable rules item = has_flag rules.entries Selectable item || is_object rules item
 
+-- whether an item is content: its flag is set, or it is an object. (After `Schema.isContent`.)
 abbrev pub is_content : Rules → List ℕ → Bool
 is_content rules item = has_flag rules.entries Content item || is_object rules item
 
+-- whether an item is an object in the text
 abbrev pub is_inline_object : Rules → List ℕ → Bool
 is_inline_object rules item = is_inline rules item && is_object rules item
 
@@ -61,6 +71,7 @@ abbrev pub is_about_attribute : List (List ℕ) → List ℕ → Check → Bool
 is_about_attribute names key (Child child last answer) = false
 is_about_attribute names key (Attribute attribute last answer) = bytes_eq attribute key && ends_with bytes_eq names last
 
+-- what a check answers
 abbrev pub answer_of : Check → Bool
 answer_of (Child child last answer) = answer
 answer_of (Attribute attribute last answer) = answer
@@ -69,6 +80,7 @@ answer_of (Attribute attribute last answer) = answer
 unfoldable pub child_answer : List Check → List (List ℕ) → List ℕ → Option Bool
 child_answer checks ancestors item = option_map answer_of (find (is_about_child ancestors item) checks)
 
+-- what the first check answers that is about this attribute on the last of these names
 unfoldable pub attribute_answer : List Check → List (List ℕ) → List ℕ → Option Bool
 attribute_answer checks names key = option_map answer_of (find (is_about_attribute names key) checks)
 
@@ -92,5 +104,6 @@ abbrev pub allowed_above : Rules → List ℕ → List (List ℕ) → Option ℕ
 allowed_above rules item [] = None
 allowed_above rules item (parent ∷ above) = if check_child rules (reverse (parent ∷ above)) item then Some (length (parent ∷ above)) else (if is_limit rules parent then None else allowed_above rules item above)
 
+-- how many of the ancestors remain, counted from the root, with the innermost that allows the item, or a limit below it. (After `Schema.findAllowedParent`.)
 unfoldable pub allowed_parent : Rules → List (List ℕ) → List ℕ → Option ℕ
 allowed_parent rules ancestors item = allowed_above rules item (reverse ancestors)

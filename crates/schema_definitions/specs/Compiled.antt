@@ -37,21 +37,27 @@ bare subject = record {
 abbrev pub root_entry : Entry
 root_entry = record (bare (Item (codes "$root"))) { is_limit = Some true }
 
+-- what holds blocks: it may stand in the root and in itself
 abbrev pub container_entry : Entry
 container_entry = record (bare (Item (codes "$container"))) { allow_in = codes "$root" ∷ codes "$container" ∷ [] }
 
+-- a block: it may stand in the root and in containers
 abbrev pub block_entry : Entry
 block_entry = record (bare (Item (codes "$block"))) { allow_in = codes "$root" ∷ codes "$container" ∷ []; is_block = Some true }
 
+-- each character of a document
 abbrev pub text_entry : Entry
 text_entry = record (bare (Item (codes "$text"))) { allow_in = codes "$block" ∷ []; is_inline = Some true; is_content = Some true }
 
+-- an object that stands where blocks do
 abbrev pub block_object_entry : Entry
 block_object_entry = record (bare (Item (codes "$blockObject"))) { allow_where = codes "$block" ∷ []; is_block = Some true; is_object = Some true }
 
+-- an object that stands where text does, with the text's attributes
 abbrev pub inline_object_entry : Entry
 inline_object_entry = record (bare (Item (codes "$inlineObject"))) { allow_where = codes "$text" ∷ []; allow_attributes_of = codes "$text" ∷ []; is_inline = Some true; is_object = Some true }
 
+-- all of these. (After "Generic items" of the schema guide of CKEditor 5's framework documentation.)
 unfoldable pub predefined : List Entry
 predefined = root_entry ∷ container_entry ∷ block_entry ∷ text_entry ∷ block_object_entry ∷ inline_object_entry ∷ []
 
@@ -73,10 +79,12 @@ extended (Extend name) = name ∷ []
 abbrev pub needed_by : Entry → List (List ℕ)
 needed_by entry = extended entry.subject ++ (entry.allow_in ++ (entry.allow_children ++ (entry.allow_where ++ (entry.allow_content_of ++ (entry.allow_attributes_of ++ (entry.inherit_types_from ++ entry.inherit_all_from))))))
 
+-- and those of a check: its item, and the names that ancestors end with
 abbrev pub needed_by_check : Check → List (List ℕ)
 needed_by_check (Child child last answer) = child ∷ last
 needed_by_check (Attribute attribute last answer) = last
 
+-- the names of all rules that have to be items: those of the entries in order, and then those of the checks
 abbrev pub needed : Rules → List (List ℕ)
 needed rules = flat_map needed_by rules.entries ++ flat_map needed_by_check rules.checks
 
@@ -89,6 +97,7 @@ abbrev pub is_empty_list : List (List ℕ) → Bool
 is_empty_list [] = true
 is_empty_list (name ∷ names) = false
 
+-- whether no name of an ancestor stands in a check
 abbrev pub has_no_ancestors : Check → Bool
 has_no_ancestors (Child child last answer) = is_empty_list last
 has_no_ancestors (Attribute attribute last answer) = is_empty_list last
@@ -108,5 +117,6 @@ abbrev pub unless_refused : Rules → Option SchemaFault → Result Rules Schema
 unless_refused rules None = Ok rules
 unless_refused rules (Some fault) = Err fault
 
+-- the rules of a file, or why it makes none
 unfoldable pub compiled : SchemaFile → Result Rules SchemaFault
 compiled file = unless_refused (rules_of file) (refusal (rules_of file))

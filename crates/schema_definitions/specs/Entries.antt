@@ -16,6 +16,7 @@ abbrev pub subject_name : Subject → List ℕ
 subject_name (Item name) = name
 subject_name (Extend name) = name
 
+-- the name of the item that an entry is about
 abbrev pub item_of : Entry → List ℕ
 item_of entry = subject_name entry.subject
 
@@ -53,6 +54,7 @@ lists entries property item name = list_any (λ entry. bytes_eq (item_of entry) 
 abbrev pub pairs : List Entry → Property → List (List ℕ × List ℕ)
 pairs entries property = flat_map (λ entry. map (λ name. (item_of entry, name)) (listed property entry)) entries
 
+-- whether true is written
 abbrev pub is_yes : Option Bool → Bool
 is_yes None = false
 is_yes (Some answer) = answer

@@ -4,5 +4,6 @@ pub mod Entries
 pub mod Relations
 pub mod Rules
 pub mod Allowed
+pub mod Checked
 pub mod Compiled
 pub mod Sample

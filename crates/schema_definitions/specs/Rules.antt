@@ -16,6 +16,7 @@ placements entries = turned (pairs entries AllowIn) ++ pairs entries AllowChildr
 unfoldable pub children_of : List Entry → List ℕ → List (List ℕ)
 children_of entries parent = reachable (turned (pairs entries AllowWhere)) (targets (placements entries) (reachable (pairs entries AllowContentOf) (parent ∷ [])))
 
+-- whether an item may stand in a parent, by the entries alone
 abbrev pub stands_in : List Entry → List ℕ → List ℕ → Bool
 stands_in entries item parent = has (children_of entries parent) item
 
@@ -23,6 +24,7 @@ stands_in entries item parent = has (children_of entries parent) item
 unfoldable pub keys_of : List Entry → List ℕ → List (List ℕ)
 keys_of entries item = targets (pairs entries AllowAttributes) (reachable (pairs entries AllowAttributesOf) (item ∷ []))
 
+-- whether an item may have an attribute, by the entries alone
 abbrev pub may_have : List Entry → List ℕ → List ℕ → Bool
 may_have entries key item = has (keys_of entries item) key
 
@@ -34,5 +36,6 @@ open_pairs entries flag = filter (λ pair. leaves_open entries flag pair.0) (pai
 unfoldable pub items_with : List Entry → Flag → List (List ℕ)
 items_with entries flag = reachable (turned (open_pairs entries flag)) (map item_of (filter (writes_yes flag) entries))
 
+-- whether a flag is set for an item
 abbrev pub has_flag : List Entry → Flag → List ℕ → Bool
 has_flag entries flag item = has (items_with entries flag) item

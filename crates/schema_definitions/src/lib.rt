@@ -6,5 +6,5 @@
 mod examples;
 pub mod fault;
 pub mod file;
-mod laws;
+pub mod laws;
 pub mod names;

@@ -35,6 +35,7 @@ pub record Standing : Type 0 where
   pub names : List (List ℕ)
   pub path : List ℕ
 
+-- where the items of a document stand: in the root, at the empty path
 abbrev pub root : Standing
 root = record { names = codes "$root" ∷ []; path = [] }
 
@@ -53,6 +54,7 @@ abbrev pub first_passes : Rules → List (List ℕ) → Bool
 first_passes rules [] = true
 first_passes rules (parent ∷ above) = passes rules parent above
 
+-- whether the last of some ancestors may stand behind the others; the root may
 abbrev pub last_passes : Rules → List (List ℕ) → Bool
 last_passes rules names = first_passes rules (reverse names)
 

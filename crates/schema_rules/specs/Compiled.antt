@@ -7,6 +7,7 @@ use Rattle.schema_rules.specs.declared.flags.FlagMarks.{FlagMarks}
 use Rattle.schema_rules.specs.Flags.{marks_of}
 use Rattle.schema_rules.specs.Tables.{AreKnown, children_rows, key_rows, flag_row}
 
+-- the tables of a schema say of each name what the relations of its entries say
 pub record IsCompiled (entries : List Entry) (registered : ℕ) (names : List (List ℕ)) (children keys : List (List Bool)) (flags : FlagMarks) : Type 0 where
   -- the first names are the registered items
   pub items : take registered names ≡ registrations entries

@@ -2,6 +2,7 @@
 use Rattle.std.specs.Prelude.{◌≡◌, ℕ, zero, suc, ◌<◌, List, [], ◌∷◌, ◌++◌, Bool, true, false, ◌==◌, if◌then◌else◌, length, slice_index_or, slice_set, All}
 use Rattle.std.specs.List.{list_any}
 
+-- whether a node is in a list
 abbrev pub among : List ℕ → ℕ → Bool
 among nodes node = list_any (λ other. other == node) nodes
 
@@ -13,6 +14,7 @@ goes graph from to = among (slice_index_or graph from []) to
 abbrev pub IsGraph : List (List ℕ) → Type 0
 IsGraph graph = (from : ℕ) → All (λ to. to < length graph) (slice_index_or graph from [])
 
+-- whether a node is marked; what is beyond the marks isn't
 abbrev pub is_marked : List Bool → ℕ → Bool
 is_marked marks node = slice_index_or marks node false
 

@@ -216,7 +216,7 @@ impl Schema {
             return false;
         };
         match child_answer(self.checks.as_slice(), ancestors, item) {
-            Some(answer) => answer,
+            Some(decided) => decided,
             None => passing && self.stands_in(item, parent),
         }
     }

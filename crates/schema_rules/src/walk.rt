@@ -99,6 +99,13 @@ fn refused_key(key: &Name, item: &Name) -> Result<Option<Rule>, NoMemory>
     Ok(Some(Rule::Attribute { key, item }))
 }
 
+/// An element and its items.
+#[derive(Clone, Copy, Debug)]
+struct Element<'a> {
+    head: &'a Head,
+    children: &'a Items,
+}
+
 /// A walk over the items of a document.
 #[derive(Debug, Drop)]
 pub struct Walk<'a> {
@@ -188,12 +195,11 @@ impl<'a> Walk<'a> {
         above: &mut Above,
         passing: bool,
         index: u32,
-        head: &Head,
-        children: &Items,
+        parts: Element<'_>,
     ) -> Result<Option<(Rule, Path)>, NoMemory>
         requires passing { passing ≡ last_passes self.now.schema.now above.old.names }
-        requires there { AreThere above.old index (element head.now.id head.now.name head.now.attributes (items_of children.now) ∷ []) }
-        ensures found { IfOk result (λ found. found ≡ breach_from self.now.schema.now chosen.now above.old index (element head.now.id head.now.name head.now.attributes (items_of children.now) ∷ [])) }
+        requires there { AreThere above.old index (element parts.head.now.id parts.head.now.name parts.head.now.attributes (items_of parts.children.now) ∷ []) }
+        ensures found { IfOk result (λ found. found ≡ breach_from self.now.schema.now chosen.now above.old index (element parts.entry.head.now.id parts.entry.head.now.name parts.entry.head.now.attributes (items_of parts.entry.children.now) ∷ [])) }
         ensures back { OnOk result (above.new ≡ above.old) }
     {
         let tested = chosen.has(index);
@@ -201,11 +207,11 @@ impl<'a> Walk<'a> {
         if !tested && below.is_none() {
             return Ok(None);
         }
-        let name = head.name();
-        let allowed = self.schema.may_stand(above.names(), passing, name);
+        let head = parts.head;
+        let allowed = self.schema.may_stand(above.names(), passing, head.name());
         match self.breach_of_head(tested, above, index, allowed, head)? {
             Some(breach) => Ok(Some(breach)),
-            None => self.breach_inside(below, above, allowed, index, name, children),
+            None => self.breach_inside(below, above, allowed, index, parts),
         }
     }
 
@@ -217,19 +223,18 @@ impl<'a> Walk<'a> {
         above: &mut Above,
         passing: bool,
         index: u32,
-        name: &Name,
-        children: &Items,
+        parts: Element<'_>,
     ) -> Result<Option<(Rule, Path)>, NoMemory>
-        requires passing { passing ≡ last_passes self.now.schema.now (inside above.old name.now index).names }
-        requires there { AreThere (inside above.old name.now index) 0 children.now }
-        ensures found { IfOk result (λ found. found ≡ breach_from self.now.schema.now chosen.entry (inside above.old name.now index) 0 children.now) }
+        requires passing { passing ≡ last_passes self.now.schema.now (inside above.old parts.head.now.name index).names }
+        requires there { AreThere (inside above.old parts.head.now.name index) 0 parts.children.now }
+        ensures found { IfOk result (λ found. found ≡ breach_from self.now.schema.now chosen.entry (inside above.old parts.entry.head.now.name index) 0 parts.entry.children.now) }
         ensures back { OnOk result (above.new ≡ above.old) }
     {
         if chosen.is_none() {
             return Ok(None);
         }
-        above.enter(name, index)?;
-        let found = self.breach_below(&chosen, above, passing, children)?;
+        above.enter(parts.head.name(), index)?;
+        let found = self.breach_below(&chosen, above, passing, parts.children)?;
         above.leave();
         Ok(found)
     }
@@ -276,7 +281,8 @@ impl<'a> Walk<'a> {
         match node {
             Node::Run(text) => self.breach_of_text(chosen, above, passing, index, text),
             Node::Element(head, children) => {
-                self.breach_of_element(chosen, above, passing, index, head, children)
+                let parts = Element { head, children };
+                self.breach_of_element(chosen, above, passing, index, parts)
             }
         }
     }

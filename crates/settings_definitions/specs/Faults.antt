@@ -6,11 +6,13 @@ use Rattle.schema_definitions.specs.declared.fault.SchemaFault.TheVariants.{Twic
 use Rattle.settings_definitions.specs.declared.fault.SettingsFault.{SettingsFault}
 use Rattle.settings_definitions.specs.declared.fault.SettingsFault.TheVariants.{NotJson as SettingsNotJson, BadField as SettingsBadField, TwiceRegistered as SettingsTwice, UnknownItem as SettingsUnknown, BadCheck as SettingsBadCheck, NoMemory as SettingsNoMemory}
 
+-- the fault of a form
 abbrev pub of_form : FormFault → SettingsFault
 of_form NotJson = SettingsNotJson
 of_form (BadField path) = SettingsBadField path
 of_form NoMemory = SettingsNoMemory
 
+-- the fault of a schema
 abbrev pub of_schema : SchemaFault → SettingsFault
 of_schema (TwiceRegistered name) = SettingsTwice name
 of_schema (UnknownItem name) = SettingsUnknown name

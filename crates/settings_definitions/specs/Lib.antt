@@ -1,3 +1,5 @@
 pub mod Faults
 pub mod SchemaForm
 pub mod Settings
+pub mod Texts
+pub mod Converting

@@ -32,6 +32,7 @@ subject_from path None (Some found) = name_at (field_path path (codes "extend"))
 subject_from path None None = Err (BadField (field_path path (codes "item")))
 subject_from path (Some found) (Some other) = Err (BadField (field_path path (codes "item")))
 
+-- the item that an entry is about, by one of the fields `item` and `extend`
 unfoldable pub subject_at : List ℕ → Data → Result Subject FormFault
 subject_at path d = subject_from path (get (codes "item") d) (get (codes "extend") d)
 
@@ -46,6 +47,7 @@ list_name AllowAttributesOf = codes "allowAttributesOf"
 list_name InheritTypesFrom = codes "inheritTypesFrom"
 list_name InheritAllFrom = codes "inheritAllFrom"
 
+-- the name of the field of a flag. (After `SchemaItemDefinition` of CKEditor 5's engine.)
 unfoldable pub flag_name : Flag → List ℕ
 flag_name Block = codes "isBlock"
 flag_name Inline = codes "isInline"
@@ -111,12 +113,15 @@ entry_of subject places sources flags = record {
   is_content = flags.is_content;
 }
 
+-- the fields that an entry may have
 abbrev pub entry_fields : List (List ℕ)
 entry_fields = codes "item" ∷ codes "extend" ∷ codes "allowIn" ∷ codes "allowChildren" ∷ codes "allowAttributes" ∷ codes "allowWhere" ∷ codes "allowContentOf" ∷ codes "allowAttributesOf" ∷ codes "inheritTypesFrom" ∷ codes "inheritAllFrom" ∷ codes "isBlock" ∷ codes "isInline" ∷ codes "isLimit" ∷ codes "isObject" ∷ codes "isSelectable" ∷ codes "isContent" ∷ []
 
+-- that it has no others
 unfoldable pub only_entry_fields : List ℕ → Data → Result ⊤ FormFault
 only_entry_fields path d = only_fields path entry_fields d
 
+-- an entry: its fields in order, and then any other
 unfoldable pub entry_at : List ℕ → Data → Result Entry FormFault
 entry_at path d = do
   _ ← object_at path d
@@ -135,6 +140,7 @@ entries_at path index (item d rest) = do
   more ← entries_at path (index + 1) rest
   Ok (entry ∷ more)
 
+-- a check of an item
 unfoldable pub child_check_at : List ℕ → Data → Result Check FormFault
 child_check_at path d = do
   child ← name_field path (codes "child") d
@@ -143,6 +149,7 @@ child_check_at path d = do
   _ ← only_fields path (codes "child" ∷ codes "endsWith" ∷ codes "answer" ∷ []) d
   Ok (Child child last answer)
 
+-- a check of an attribute
 unfoldable pub attribute_check_at : List ℕ → Data → Result Check FormFault
 attribute_check_at path d = do
   key ← name_field path (codes "attribute") d
@@ -156,6 +163,7 @@ abbrev pub is_child_form : Option Data → Option Data → Bool
 is_child_form (Some child) attribute = true
 is_child_form None attribute = is_none attribute
 
+-- a check, of an item where the field `child` is there and else of an attribute
 unfoldable pub check_at : List ℕ → Data → Result Check FormFault
 check_at path d = do
   _ ← object_at path d

@@ -43,6 +43,7 @@ abbrev pub checks_if : Option Data → Result (List Check) FormFault
 checks_if None = Ok []
 checks_if (Some found) = or_bad (field_path [] (codes "checks")) (as_array found) >>= λ items. checks_at (field_path [] (codes "checks")) 0 items
 
+-- the field `checks`: none where it isn't there
 unfoldable pub checks_field : Data → Result (List Check) FormFault
 checks_field d = checks_if (get (codes "checks") d)
 
@@ -52,6 +53,7 @@ converters_field indexes d = do
   items ← or_bad (field_path [] (codes "converters")) (option_and_then as_array (get (codes "converters") d))
   converters_at indexes (field_path [] (codes "converters")) 0 items
 
+-- the fields that a file may have
 abbrev pub settings_fields : List (List ℕ)
 settings_fields = codes "version" ∷ codes "rounds" ∷ codes "start" ∷ codes "schema" ∷ codes "checks" ∷ codes "converters" ∷ []
 
@@ -59,6 +61,7 @@ settings_fields = codes "version" ∷ codes "rounds" ∷ codes "start" ∷ codes
 abbrev pub may_count : ℕ → Bool
 may_count version = version == 2
 
+-- what a value says, or the first place that breaks its form: the fields in this order, and then any other
 unfoldable pub form_at : Data → Result Form FormFault
 form_at d = do
   _ ← object_at [] d
@@ -105,7 +108,7 @@ refusal_of handed_in form = option_or (option_map TwiceRegistered (first_repeate
     (converters_refusal handed_in (rules_of form) form.converters)))))
 
 -- the settings, with the names of the elements that are counted for the converters
-pub record Settled : Type 0 where
+pub record Settings : Type 0 where
   pub rules : Rules
   pub version : ℕ
   pub rounds : ℕ
@@ -113,8 +116,9 @@ pub record Settled : Type 0 where
   pub converters : List ConverterPlan
   pub indexed : List (List ℕ)
 
-abbrev pub settled_form : Form → Settled
-settled_form form = record {
+-- what a form says, as settings
+abbrev pub settings_in : Form → Settings
+settings_in form = record {
   rules = rules_of form;
   version = form.version;
   rounds = form.rounds;
@@ -123,14 +127,16 @@ settled_form form = record {
   indexed = indexed_names form.converters;
 }
 
-abbrev pub unless_refused : Form → Option SettingsFault → Result Settled SettingsFault
-unless_refused form None = Ok (settled_form form)
+-- the settings, unless there is a reason to refuse the form
+abbrev pub unless_refused : Form → Option SettingsFault → Result Settings SettingsFault
+unless_refused form None = Ok (settings_in form)
 unless_refused form (Some fault) = Err fault
 
-abbrev pub settled : List (List ℕ) → Result Form FormFault → Result Settled SettingsFault
-settled handed_in (Err fault) = Err (of_form fault)
-settled handed_in (Ok form) = unless_refused form (refusal_of handed_in form)
+-- the settings of a form that was read, or why there are none
+abbrev pub settings_from : List (List ℕ) → Result Form FormFault → Result Settings SettingsFault
+settings_from handed_in (Err fault) = Err (of_form fault)
+settings_from handed_in (Ok form) = unless_refused form (refusal_of handed_in form)
 
 -- the settings of a file, where products' converters of these names are handed in, or why there are none
-unfoldable pub settings_of : List (List ℕ) → List ℕ → Result Settled SettingsFault
-settings_of handed_in bytes = settled handed_in (form_of bytes)
+unfoldable pub settings_of : List (List ℕ) → List ℕ → Result Settings SettingsFault
+settings_of handed_in bytes = settings_from handed_in (form_of bytes)

@@ -4,4 +4,5 @@
 
 mod examples;
 pub mod fault;
+pub mod laws;
 pub mod parts;

@@ -74,31 +74,31 @@ breach_below-returns-clause-found t c =
 
 pub breach_of_element-returns-then-is_none-clause-found : goal.breach_of_element-returns-then-is_none-clause-found
 breach_of_element-returns-then-is_none-clause-found t c =
-    let name = c.args.head.now.name in
-    none_chosen c.args.self.now.schema.now c.in_ok-below.below (inside c.args.above.now name c.args.index) 0 c.args.children.now (c.is_none.ensures c.if-is_none.true)
-    ∙ element_is c.args.self.now.schema.now c.args.chosen.now c.in_ok-below.below c.args.above.now c.args.index c.args.head.now name c.args.children.now false None refl refl (sym c.if-not-tested.true ∙ c.has-tested.ensures) c.in_ok-below.ensures
+    let name = c.args.parts.head.now.name in
+    none_chosen c.args.self.now.schema.now c.in_ok-below.below (inside c.args.above.now name c.args.index) 0 c.args.parts.children.now (c.is_none.ensures c.if-is_none.true)
+    ∙ element_is c.args.self.now.schema.now c.args.chosen.now c.in_ok-below.below c.args.above.now c.args.index c.args.parts.head.now name c.args.parts.children.now false None refl refl (sym c.if-not-tested.true ∙ c.has-tested.ensures) c.in_ok-below.ensures
 
 pub breach_of_element-breach_inside-requires : goal.breach_of_element-breach_inside-requires
 breach_of_element-breach_inside-requires t c =
     let rules = c.args.self.now.schema.now in
     let above = c.args.above.now in
-    let head = c.args.head.now in (
+    let head = c.args.parts.head.now in (
       omega (arith, c.decreases),
       (
-        c.may_stand-allowed.ensures ∙ (λ i. check_child rules (c.names.ensures i) (c.name-name.result.now)) ∙ passes_inside rules above.names c.name-name.result.now c.requires.there.named,
-        subst (λ name. AreThere (inside above name c.args.index) 0 c.args.children.now) (sym c.name-name.ensures) (there_inside above c.args.index head.id head.name head.attributes c.args.children.now c.requires.there),
+        c.may_stand-allowed.ensures ∙ (λ i. check_child rules (c.names.ensures i) (c.name.ensures i)) ∙ passes_inside rules above.names head.name c.requires.there.named,
+        there_inside above c.args.index head.id head.name head.attributes c.args.parts.children.now c.requires.there,
       ),
     )
 
 pub breach_of_element-returns-in-Some-clause-found : goal.breach_of_element-returns-in-Some-clause-found
 breach_of_element-returns-in-Some-clause-found t c =
-    element_is c.args.self.now.schema.now c.args.chosen.now c.in_ok-below.below c.args.above.now c.args.index c.args.head.now c.args.head.now.name c.args.children.now c.has-tested.result (Some c.in-Some.breach) refl
+    element_is c.args.self.now.schema.now c.args.chosen.now c.in_ok-below.below c.args.above.now c.args.index c.args.parts.head.now c.args.parts.head.now.name c.args.parts.children.now c.has-tested.result (Some c.in-Some.breach) refl
     (sym c.in-Some.is ∙ c.in_ok-breach.ensures) c.has-tested.ensures c.in_ok-below.ensures
 
 pub breach_of_element-returns-in-None-clause-found : goal.breach_of_element-returns-in-None-clause-found
 breach_of_element-returns-in-None-clause-found t c =
     subst (λ wanted. IfOk c.breach_inside.result (λ found. found ≡ wanted))
-    (element_is c.args.self.now.schema.now c.args.chosen.now c.in_ok-below.below c.args.above.now c.args.index c.args.head.now c.name-name.result.now c.args.children.now c.has-tested.result None c.name-name.ensures
+    (element_is c.args.self.now.schema.now c.args.chosen.now c.in_ok-below.below c.args.above.now c.args.index c.args.parts.head.now c.args.parts.head.now.name c.args.parts.children.now c.has-tested.result None refl
     (sym c.in-None.is ∙ c.in_ok-breach.ensures) c.has-tested.ensures c.in_ok-below.ensures)
     c.breach_inside.ensures.found
 
@@ -110,4 +110,4 @@ breach_of_node-breach_of_element-requires t c = (
 
 pub breach_inside-returns-then-is_none-clause-found : goal.breach_inside-returns-then-is_none-clause-found
 breach_inside-returns-then-is_none-clause-found t c =
-    none_chosen c.args.self.now.schema.now c.args.chosen (inside c.args.above.now c.args.name.now c.args.index) 0 c.args.children.now (c.is_none.ensures c.if-is_none.true)
+    none_chosen c.args.self.now.schema.now c.args.chosen (inside c.args.above.now c.args.parts.head.now.name c.args.index) 0 c.args.parts.children.now (c.is_none.ensures c.if-is_none.true)

@@ -19,7 +19,7 @@ abbrev pub decreases-breach_of_node : goal.decreases-breach_of_node
 decreases-breach_of_node l = 4 * depth_of (items_at l.node.now) + 2
 
 abbrev pub decreases-breach_of_element : goal.decreases-breach_of_element
-decreases-breach_of_element l = 4 * (1 + depth_of l.children.now) + 1
+decreases-breach_of_element l = 4 * (1 + depth_of l.parts.children.now) + 1
 
 abbrev pub decreases-breach_inside : goal.decreases-breach_inside
-decreases-breach_inside l = 4 * (1 + depth_of l.children.now)
+decreases-breach_inside l = 4 * (1 + depth_of l.parts.children.now)
