@@ -31,13 +31,13 @@ none-there : (cells : List (List Item)) → get_or cells (length cells) [] ≡ [
 none-there [] = refl
 none-there (cell ∷ cells) = none-there cells
 
-next-free : (cells : List (List Item)) → is_free cells (length cells) ≡ true
+pub next-free : (cells : List (List Item)) → is_free cells (length cells) ≡ true
 next-free cells = both (length cells) (is_empty (in_cell_at cells (length cells))) (ap is_empty (none-there cells))
   where
     both : (n : ℕ) (b : Bool) → b ≡ true → (nat_le n n && b) ≡ true
     both n b e = grind (arith, nat_tests)
 
-one-more : (cells : List (List Item)) (items : List Item) → length (fill cells (length cells) items) ≡ length cells + 1
+pub one-more : (cells : List (List Item)) (items : List Item) → length (fill cells (length cells) items) ≡ length cells + 1
 one-more cells items = go (nat_lt (length cells) (length cells)) refl
   where
     go : (t : Bool) → t ≡ nat_lt (length cells) (length cells) → length (if t then set cells (length cells) items else cells ++ items ∷ []) ≡ length cells + 1
