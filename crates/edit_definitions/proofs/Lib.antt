@@ -1,0 +1,10 @@
+pub mod Cells
+pub mod Alike
+pub mod Apart
+pub mod Reached
+pub mod Works
+pub mod Stay
+pub mod Moved
+pub mod Removed
+pub mod Attributed
+pub mod Planning

@@ -5,7 +5,7 @@ use Rattle.ck_base.specs.declared.faults.EditFault.TheVariants.{TooLarge, TooDee
 use Rattle.item_definitions.specs.Position.{between}
 use Rattle.operation_definitions.specs.Operation.{Fault, no_place, not_flat, into_itself, old_differs, not_neighbours, cell_state, too_large, too_deep}
 use Rattle.document_definitions.specs.Selection.{selected, with_override}
-use Rattle.document_definitions.specs.Document.{State, with_selection, all_applied}
+use Rattle.document_definitions.specs.Document.{Document, State, with_selection, all_applied}
 use Rattle.edit_definitions.specs.declared.edit.Edit.{Edit}
 use Rattle.edit_definitions.specs.declared.edit.Edit.TheVariants.{Select, SelectionAttribute}
 use Rattle.edit_definitions.specs.Planned.{◌>>=◌, operations_of}
@@ -44,3 +44,16 @@ performed registered number edit state = do
 abbrev pub all_performed : (List ℕ → Bool) → ℕ → List Edit → State → Result State EditFault
 all_performed registered number [] state = Ok state
 all_performed registered number (edit ∷ edits) state = performed registered number edit state >>= all_performed registered (number + 1) edits
+
+-- a document with no cells beside it
+abbrev pub apart : Document → State
+apart document = record { document = document; cells = [] }
+
+-- the document of a state that was made, without the cells beside it
+abbrev pub document_made : Result State EditFault → Result Document EditFault
+document_made (Ok state) = Ok state.document
+document_made (Err fault) = Err fault
+
+-- the document after the edits of a change, one after the other, or why the first that can't be made can't
+abbrev pub edits_made : (List ℕ → Bool) → List Edit → Document → Result Document EditFault
+edits_made registered edits document = document_made (all_performed registered 1 edits (apart document))
