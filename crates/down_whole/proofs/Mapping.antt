@@ -12,7 +12,8 @@ use Rattle.downcast_definitions.specs.Rows.{downcast, numbered_downcast}
 use Rattle.downcast_definitions.specs.Shown.{HasShapes}
 use Rattle.downcast_definitions.proofs.Numbering.{numbers-dropped}
 use Rattle.pos_mapper.specs.Bindings.{Mapper, numbers_of}
-use Rattle.pos_mapper.specs.Mapped.{uncounted, IsMapped}
+use Rattle.view_definitions.specs.Node.{uncounted}
+use Rattle.pos_mapper.specs.Mapped.{IsMapped}
 use Rattle.down_whole.specs.Bound.{bindings_among, Agree}
 use Rattle.down_whole.specs.Made.{MadeContent}
 use Rattle.down_whole.proofs.Bindings.{mapper-bound, numbers-agree, all-bound}

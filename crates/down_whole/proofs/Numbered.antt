@@ -13,7 +13,7 @@ use Rattle.pos_mapper.specs.Bindings.{Binding, Mapper, numbers_of}
 use Rattle.pos_mapper.specs.Mapped.{slot_of}
 use Rattle.downcast_definitions.specs.Rows.{elements_in, shape_at}
 use Rattle.down_whole.specs.Bound.{elements_of, elements_among, bindings_of, bindings_among, AreBelow}
-use Rattle.down_whole.specs.Numbered.{AreNumbered}
+use Rattle.downcast_definitions.specs.Numbered.{AreNumbered}
 use Rattle.down_whole.proofs.Bindings.{held, found, times, ids_times, same-ids, once, Once, flipped, equal}
 use Rattle.down_whole.proofs.Mapping.{AllMade, mapper-bindings, items-distinct}
 

@@ -8,4 +8,3 @@ pub mod Scenes
 pub mod Ways
 pub mod Front
 pub mod Made
-pub mod Numbered

@@ -12,7 +12,7 @@ ghost use Rattle.pos_mapper.specs.Mapped.{IsMapped};
 ghost use Rattle.down_whole.specs.Viewed.{caret_view};
 ghost use Rattle.down_whole.specs.Made.{MadeContent};
 ghost use Rattle.down_whole.specs.Bound.{elements_among, AreBelow};
-ghost use Rattle.down_whole.specs.Numbered.{AreNumbered};
+ghost use Rattle.downcast_definitions.specs.Numbered.{AreNumbered};
 
 use crate::caret::{Caret, caret_of};
 use crate::content::content;

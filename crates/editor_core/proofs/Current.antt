@@ -1,41 +1,54 @@
--- Editors whose view is that of their document, behind a change.
-use Rattle.std.proofs.Common.{◌≡◌, Some, sym, ap, ◌∙◌, subst}
+-- Editors whose view is that of their document: what they show, and how a change leaves them.
+use Rattle.std.proofs.Common.{◌≡◌, List, None, Some, sym, ap, ◌∙◌, subst}
 use Rattle.std.specs.Global.{Global}
 use Rattle.std.specs.declared.dyn_box.DynBox.{DynBox}
-use Rattle.document_definitions.specs.Document.{ids_of}
-use Rattle.view_definitions.specs.Node.{content}
-use Rattle.downcast_definitions.specs.Rows.{downcast}
+use Rattle.breach_definitions.specs.Breach.{breach}
+use Rattle.document_definitions.specs.Document.{Document, ids_of}
+use Rattle.view_definitions.specs.Node.{ViewNode, content}
+use Rattle.converter_definitions.specs.Gives.{Conversion}
+use Rattle.converter_definitions.specs.Gives.{Giving}
+use Rattle.downcast_definitions.specs.Rows.{downcast, numbered_downcast}
+use Rattle.downcast_definitions.proofs.Numbering.{numbers-dropped}
 use Rattle.model_doc.specs.Held.{Moment, Held, present, letting_go, returned}
-use Rattle.pos_mapper.specs.Bindings.{numbers_of}
+use Rattle.pos_mapper.specs.Bindings.{Mapper, numbers_of}
 use Rattle.pos_mapper.specs.Mapped.{IsMapped}
-use Rattle.down_whole.specs.Numbered.{AreNumbered}
-use Rattle.conv_rules.specs.Listed.{Giving, conversion_of}
+use Rattle.pos_mapper.proofs.Blind.{same-content}
+use Rattle.downcast_definitions.specs.Numbered.{AreNumbered}
 use Rattle.editor_core.specs.declared.editor.Editor.{Editor}
-use Rattle.editor_core.specs.Edited.{IsCurrent}
+use Rattle.editor_core.specs.AsMachine.{conversion_in, IsCurrent}
+
+-- the nodes that a mapper is of are the document's view, whatever their numbers and counts of changes
+pub shows_document : (conversion : Conversion) (document : Document) (mapper : Mapper) (nodes : List ViewNode) → IsMapped conversion document mapper nodes
+    → content nodes ≡ downcast conversion document
+shows_document conversion document mapper nodes mapped =
+    sym (same-content nodes)
+    ∙ ap content mapped.view
+    ∙ same-content (numbered_downcast (numbers_of mapper) conversion document)
+    ∙ numbers-dropped (numbers_of mapper) conversion document
 
 module _ {X : Type 0} {Y : X → Type 0} (gives : DynBox X Global Y → Giving) (editor : Editor X Y) where
-  -- with a document that is the same
-  pub same-document : (document : Held) → document ≡ editor.document → IsCurrent gives editor → IsCurrent gives (record editor { document = document })
-  same-document document e current = subst (λ document. IsCurrent gives (record editor { document = document })) (sym e) current
-
-  -- with one that returned to what it kept
-  pub same-again : (kept changed document : Held) → IsCurrent gives editor → kept ≡ record editor.document { kept = Some (present editor.document) } → changed.kept ≡ kept.kept
+  -- a document that returned to what it kept is the one from before
+  pub same_again : (kept changed document : Held) → IsCurrent gives editor → kept ≡ record editor.document { kept = Some (present editor.document) } → changed.kept ≡ kept.kept
       → ((moment : Moment) → changed.kept ≡ Some moment → document ≡ returned moment) → document ≡ editor.document
-  same-again kept changed document current k c r =
+  same_again kept changed document current k c r =
       r (present editor.document) (c ∙ ap (λ (held : Held). held.kept) k)
       ∙ (λ i. record { state = editor.document.state; mark = editor.document.mark; kept = sym current.kept i })
 
-  -- with a new one, which is shown, and let go of what it kept
-  pub shown-anew : (changed document : Held) → document ≡ letting_go changed → (new : Editor X Y) → new.document ≡ document
-      → IsMapped (conversion_of gives new.list) changed.state.document new.mapper new.view.nodes
+  -- and so the editor is the one from before
+  pub as_it_was : (document : Held) → document ≡ editor.document → record editor { document = document } ≡ editor
+  as_it_was document e = λ i. record editor { document = e i }
+
+  -- with a new document, which is shown, and let go of what it kept
+  pub shown_anew : (changed document : Held) → document ≡ letting_go changed → (new : Editor X Y) → new.document ≡ document
+      → breach new.schema changed.state.document.items ≡ None
+      → IsMapped (conversion_in gives new) changed.state.document new.mapper new.view.nodes
       → AreNumbered (numbers_of new.mapper) (ids_of changed.state.document.items)
-      → content new.view.nodes ≡ downcast (conversion_of gives new.list) changed.state.document
       → IsCurrent gives new
-  shown-anew changed document e new d mapped numbered shown =
+  shown_anew changed document e new d obeys mapped numbered =
       let all : letting_go changed ≡ new.document = sym (d ∙ e) in
       record {
         kept = sym (ap (λ (held : Held). held.kept) all);
-        mapped = subst (λ (held : Held). IsMapped (conversion_of gives new.list) held.state.document new.mapper new.view.nodes) all mapped;
+        obeys = subst (λ (held : Held). breach new.schema held.state.document.items ≡ None) all obeys;
+        mapped = subst (λ (held : Held). IsMapped (conversion_in gives new) held.state.document new.mapper new.view.nodes) all mapped;
         numbered = subst (λ (held : Held). AreNumbered (numbers_of new.mapper) (ids_of held.state.document.items)) all numbered;
-        shown = subst (λ (held : Held). content new.view.nodes ≡ downcast (conversion_of gives new.list) held.state.document) all shown;
       }

@@ -3,9 +3,10 @@ use Rattle.std.proofs.Common.{◌≡◌, ℕ, ℤ, List, [], ◌∷◌, map, Boo
 use Rattle.std.specs.Global.{Global}
 use Rattle.std.specs.declared.dyn_box.DynBox.{DynBox}
 use Rattle.converter_definitions.specs.Gives.{Converter, Conversion}
+use Rattle.converter_definitions.specs.Gives.{Giving}
 use Rattle.conv_rules.specs.declared.list.Listed.{Listed}
 use Rattle.conv_rules.specs.declared.list.ConverterList.{ConverterList}
-use Rattle.conv_rules.specs.Listed.{Giving, converter_of, converters_of, conversion_of, listed, listed_of}
+use Rattle.conv_rules.specs.Listed.{converter_of, converters_of, conversion_of, listed, listed_of}
 
 module _ {X : Type 0} {Y : X → Type 0} (gives : DynBox X Global Y → Giving) where
   none-listed : (entries : List (Listed X Y)) → converters_of gives entries ≡ [] → listed gives entries ≡ []

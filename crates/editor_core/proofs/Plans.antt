@@ -9,7 +9,7 @@ use Rattle.converter_read.specs.declared.plan.ConverterPlan.{ConverterPlan}
 use Rattle.converter_read.specs.declared.plan.PlanEntry.{PlanEntry}
 use Rattle.converter_read.specs.declared.plan.PlanEntry.TheVariants.{Stock, Boxed}
 use Rattle.converter_read.specs.PlanNames.{is_custom, uses, unknown_custom, unknown_custom_from}
-use Rattle.conv_rules.specs.Listed.{added}
+use Rattle.converter_definitions.specs.Priority.{added}
 use Rattle.program_definitions.specs.Converters.{Givings, giving_of, converter_of, all_added, names_of}
 use Rattle.editor_core.specs.HandedIn.{IsThere}
 

@@ -8,7 +8,7 @@ use Rattle.std.specs.List.{position, position_or_len, remove}
 use Rattle.std.specs.Str.{bytes_eq}
 use Rattle.schema_definitions.proofs.Members.{same_name}
 use Rattle.downcast_definitions.proofs.Tests.{is_below, not_below, below, above}
-use Rattle.conv_rules.specs.Listed.{Giving}
+use Rattle.converter_definitions.specs.Gives.{Giving}
 use Rattle.program_definitions.specs.Converters.{Givings, giving_of}
 use Rattle.editor_core.specs.declared.extensions.NamedConverter.{NamedConverter}
 use Rattle.editor_core.specs.HandedIn.{givings_of, place_from}

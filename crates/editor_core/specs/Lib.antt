@@ -1,5 +1,4 @@
 pub mod HandedIn
-pub mod Configured
-pub mod Edited
+pub mod AsMachine
 pub mod Tested
 pub mod Opened

@@ -1,16 +1,15 @@
 //! A change of a document, up to the point from which it takes no memory.
-ghost use Rattle.std.specs.Prelude.{◌≡◌, ◌≢◌, Ok, Err, IfOk, IfErr, OnOk};
+ghost use Rattle.std.specs.Prelude.{◌≡◌, ◌≢◌, None, Ok, Err, IfOk, IfErr, OnOk};
 ghost use Rattle.ck_base.specs.declared.faults.EditFault.TheVariants.{NoMemory as NoMemoryForEdit};
 ghost use Rattle.breach_definitions.specs.Breach.{breach};
 ghost use Rattle.schema_definitions.specs.Allowed.{is_registered};
-ghost use Rattle.view_definitions.specs.Node.{content};
-ghost use Rattle.downcast_definitions.specs.Rows.{downcast as downcast_of};
 ghost use Rattle.conv_rules.specs.Listed.{conversion_of};
 ghost use Rattle.document_definitions.specs.Document.{ids_of};
 ghost use Rattle.pos_mapper.specs.Bindings.{numbers_of};
 ghost use Rattle.pos_mapper.specs.Mapped.{IsMapped};
-ghost use Rattle.down_whole.specs.Numbered.{AreNumbered};
+ghost use Rattle.downcast_definitions.specs.Numbered.{AreNumbered};
 ghost use Rattle.edit_definitions.specs.Performed.{all_performed};
+ghost use Rattle.edit_definitions.specs.Performed.{edits_made};
 ghost use Rattle.step_definitions.specs.Step.{step};
 ghost use Rattle.editor_core.specs.Tested.{Tests};
 
@@ -35,13 +34,29 @@ fn perform_all(
     batch: &mut Batch,
 ) -> Result<(), EditFault>
     ensures ok { OnOk result (all_performed (is_registered schema.now) 1 edits.now document.old.state ≡ Ok document.new.state) }
-    ensures refused { IfErr result (λ fault. fault ≢ NoMemoryForEdit → all_performed (is_registered schema.now) 1 edits.now document.old.state ≡ Err fault) }
+    ensures refused { IfErr result (λ fault. fault ≢ NoMemoryForEdit
+        → all_performed (is_registered schema.now) 1 edits.now document.old.state ≡ Err fault) }
     ensures kept { document.new.kept ≡ document.old.kept }
 {
     for (index, edit) in edits.iter().enumerate() {
         perform(document, schema, edit, index as u64 + 1, batch)?;
     }
     Ok(())
+}
+
+/// Makes edits in order, as `perform_all`. What becomes of the document doesn't hang on what its cells hold.
+fn make_edits(
+    document: &mut Document,
+    schema: &Schema,
+    edits: &[Edit],
+    batch: &mut Batch,
+) -> Result<(), EditFault>
+    ensures ok { OnOk result (edits_made (is_registered schema.now) edits.now document.old.state.document ≡ Ok document.new.state.document) }
+    ensures refused { IfErr result (λ fault. fault ≢ NoMemoryForEdit
+        → edits_made (is_registered schema.now) edits.now document.old.state.document ≡ Err fault) }
+    ensures kept { document.new.kept ≡ document.old.kept }
+{
+    perform_all(document, schema, edits, batch)
 }
 
 /// The refusal of a change one of whose edits can't be made.
@@ -73,12 +88,14 @@ fn edited(
     schema: &Schema,
     edits: &[Edit],
 ) -> Result<(), Refusal>
-    ensures ok { OnOk result (step schema.now edits.now document.old.state ≡ Ok document.new.state) }
-    ensures refused { IfErr result (λ refusal. refusal ≢ Refusal.NoMemory → step schema.now edits.now document.old.state ≡ Err refusal) }
+    ensures ok { OnOk result (step (record { rules = schema.now }) edits.now document.old.state.document ≡ Ok document.new.state.document) }
+    ensures obeys { OnOk result (breach schema.now document.new.state.document.items ≡ None) }
+    ensures refused { IfErr result (λ refusal. refusal ≢ Refusal.NoMemory
+        → step (record { rules = schema.now }) edits.now document.old.state.document ≡ Err refusal) }
     ensures kept { document.new.kept ≡ document.old.kept }
 {
     let mut batch = Batch::begin(alloc, document)?;
-    match perform_all(document, schema, edits, &mut batch) {
+    match make_edits(document, schema, edits, &mut batch) {
         Ok(()) => {}
         Err(fault) => return Err(refusal_of(fault)),
     }
@@ -95,11 +112,13 @@ pub(crate) fn changed<L: Ledger>(
     edits: &[Edit],
     steps: &mut Steps<L>,
 ) -> Result<(View, Mapper), Refusal>
-    ensures ok { OnOk result (step schema.now edits.now document.old.state ≡ Ok document.new.state) }
-    ensures view { IfOk result (λ both. content both.0.nodes ≡ downcast_of (conversion_of (λ object. gives (object.vtable, object.value)) list.now) document.new.state.document) }
-    ensures mapper { IfOk result (λ both. IsMapped (conversion_of (λ object. gives (object.vtable, object.value)) list.now) document.new.state.document both.1 both.0.nodes) }
+    ensures ok { OnOk result (step (record { rules = schema.now }) edits.now document.old.state.document ≡ Ok document.new.state.document) }
+    ensures obeys { OnOk result (breach schema.now document.new.state.document.items ≡ None) }
+    ensures mapped { IfOk result (λ both.
+        IsMapped (conversion_of (λ object. gives (object.vtable, object.value)) list.now) document.new.state.document both.1 both.0.nodes) }
     ensures numbered { IfOk result (λ both. AreNumbered (numbers_of both.1) (ids_of document.new.state.document.items)) }
-    ensures refused { IfErr result (λ refusal. refusal ≢ Refusal.NoMemory → step schema.now edits.now document.old.state ≡ Err refusal) }
+    ensures refused { IfErr result (λ refusal. refusal ≢ Refusal.NoMemory
+        → step (record { rules = schema.now }) edits.now document.old.state.document ≡ Err refusal) }
     ensures kept { document.new.kept ≡ document.old.kept }
 {
     edited(alloc, document, schema, edits)?;

@@ -1,20 +1,17 @@
 //! The editor.
-ghost use Rattle.std.specs.Prelude.{◌≡◌, ◌≢◌, ◌≤◌, [], ◌∷◌, ◌++◌, take, map, None, Ok, Err, IfOk, IfErr, OnOk, OnErr};
-ghost use Rattle.converter_read.specs.PlanNames.{first_unknown_custom};
-ghost use Rattle.document_definitions.specs.Document.{empty_state, ids_of};
-ghost use Rattle.view_definitions.specs.Node.{content};
+ghost use Rattle.std.specs.Prelude.{◌≡◌, ◌≤◌, [], ◌∷◌, ◌++◌, take, None, Ok, Err, IfOk, IfErr, OnErr, ◌≢◌};
+ghost use Rattle.document_definitions.specs.Document.{ids_of};
+ghost use Rattle.view_definitions.specs.Node.{content, uncounted};
 ghost use Rattle.conv_rules.specs.Listed.{conversion_of};
-ghost use Rattle.downcast_definitions.specs.Rows.{downcast};
+ghost use Rattle.downcast_definitions.specs.Rows.{downcast, numbered_downcast};
 ghost use Rattle.downcast_definitions.specs.Seen.{seen};
-ghost use Rattle.down_whole.specs.Numbered.{AreNumbered};
-ghost use Rattle.step_definitions.specs.Step.{step, opening};
-ghost use Rattle.program_definitions.specs.Converters.{names_of};
+ghost use Rattle.downcast_definitions.specs.Numbered.{AreNumbered};
+ghost use Rattle.step_definitions.specs.Step.{step, opening, empty_document};
+ghost use Rattle.program_definitions.specs.Machine as machine;
 ghost use Rattle.program_definitions.specs.Selecting.{selecting};
-ghost use Rattle.editor_core.specs.Edited as editing;
-ghost use Rattle.editor_core.specs.Edited.{fresh, started, config_in, state_in, numbers_in, edited_of, IsCurrent};
-ghost use Rattle.editor_core.specs.HandedIn.{givings_of};
-ghost use Rattle.editor_core.specs.Opened.{Faults, Opens};
-ghost use Rattle.editor_core.specs.Configured.{configured};
+ghost use Rattle.editor_core.specs.AsMachine.{conversion_in, document_in, numbers_in, machine_of, IsCurrent, Moves};
+ghost use Rattle.editor_core.specs.HandedIn.{givings_of, AreHandedIn};
+ghost use Rattle.editor_core.specs.Opened.{Faults, Opens, begun, started};
 
 use crate::changing::changed;
 use crate::extensions::Extensions;
@@ -65,8 +62,7 @@ pub enum OpenFault {
 /// How many changes an editor accepts.
 const MOST_CHANGES: u32 = 4_294_967_295;
 
-/// An editor: a document that obeys a schema, and the view that its converters make of it. It is seen as what the document is edited and shown
-/// by, the document's state, and how many changes it has accepted.
+/// An editor: a document that obeys a schema, and the view that its converters make of it. Its calls are steps of the machine that it is.
 #[derive(Drop)]
 pub struct Editor {
     pub(crate) list: ConverterList,
@@ -130,7 +126,9 @@ fn opened<L: Ledger>(
     edits: &[Edit],
     steps: &mut Steps<L>,
 ) -> Result<Editor, OpenFault>
-    ensures { Opens (λ object. gives (object.vtable, object.value)) (fresh (record { rules = schema; conversion = conversion_of (λ object. gives (object.vtable, object.value)) list }) (step schema edits.now (empty_state 1))) result }
+    ensures { Opens (λ object. gives (object.vtable, object.value))
+        (begun (record { terms = record { rules = schema }; conversion = conversion_of (λ object. gives (object.vtable, object.value)) list })
+        (step (record { rules = schema }) edits.now empty_document)) result }
 {
     let Ok(mut document) = Document::new(alloc, 1) else {
         return Err(OpenFault::NoMemory);
@@ -158,8 +156,8 @@ impl Editor {
         extensions: Extensions,
         steps: &mut Steps<L>,
     ) -> Result<Editor, OpenFault>
-        requires { first_unknown_custom (names_of (givings_of (λ object. gives object) extensions.converters.items)) parts.converters.items ≡ None }
-        ensures { Opens (λ object. gives object) (started (configured (givings_of (λ object. gives object) extensions.converters.items) parts) parts.start) result }
+        requires { AreHandedIn parts.converters.items (givings_of (λ object. gives object) extensions.converters.items) }
+        ensures { Opens (λ object. gives object) (started (givings_of (λ object. gives object) extensions.converters.items) parts) result }
     {
         let Parts {
             schema,
@@ -188,11 +186,9 @@ impl Editor {
     ) -> Result<(), Refusal>
         requires { IsCurrent (λ object. gives (object.vtable, object.value)) self.old }
         ensures current { IsCurrent (λ object. gives (object.vtable, object.value)) self.new }
-        ensures ok { OnOk result (editing.changed edits.now (edited_of (λ object. gives (object.vtable, object.value)) self.old) ≡ Ok (edited_of (λ object. gives (object.vtable, object.value)) self.new)) }
-        ensures refused { IfErr result (λ refusal. refusal ≢ Refusal.NoMemory → editing.changed edits.now (edited_of (λ object. gives (object.vtable, object.value)) self.old) ≡ Err refusal) }
-        ensures err { OnErr result (edited_of (λ object. gives (object.vtable, object.value)) self.new ≡ edited_of (λ object. gives (object.vtable, object.value)) self.old) }
-        ensures view { OnErr result (self.new.view.nodes ≡ self.old.view.nodes) }
-        ensures mapper { OnErr result (self.new.mapper ≡ self.old.mapper) }
+        ensures moves { Moves (machine.change edits.now (machine_of (λ object. gives (object.vtable, object.value)) self.old))
+            (machine_of (λ object. gives (object.vtable, object.value)) self.new) result }
+        ensures stays { OnErr result (self.new ≡ self.old) }
     {
         if self.accepted == MOST_CHANGES {
             return Err(Refusal::ChangesSpent);
@@ -233,13 +229,9 @@ impl Editor {
     ) -> Result<(), Refusal>
         requires { IsCurrent (λ object. gives (object.vtable, object.value)) self.old }
         ensures current { IsCurrent (λ object. gives (object.vtable, object.value)) self.new }
-        ensures ok { OnOk result (editing.view_selected (anchor.now.path ++ anchor.now.offset ∷ []) (focus.now.path ++ focus.now.offset ∷ []) (edited_of (λ object. gives (object.vtable, object.value)) self.old)
-            ≡ Ok (edited_of (λ object. gives (object.vtable, object.value)) self.new)) }
-        ensures refused { IfErr result (λ refusal. refusal ≢ Refusal.NoMemory
-            → editing.view_selected (anchor.now.path ++ anchor.now.offset ∷ []) (focus.now.path ++ focus.now.offset ∷ []) (edited_of (λ object. gives (object.vtable, object.value)) self.old) ≡ Err refusal) }
-        ensures err { OnErr result (edited_of (λ object. gives (object.vtable, object.value)) self.new ≡ edited_of (λ object. gives (object.vtable, object.value)) self.old) }
-        ensures view { OnErr result (self.new.view.nodes ≡ self.old.view.nodes) }
-        ensures mapper { OnErr result (self.new.mapper ≡ self.old.mapper) }
+        ensures moves { Moves (machine.select_view (anchor.now.path ++ anchor.now.offset ∷ []) (focus.now.path ++ focus.now.offset ∷ [])
+            (machine_of (λ object. gives (object.vtable, object.value)) self.old)) (machine_of (λ object. gives (object.vtable, object.value)) self.new) result }
+        ensures stays { OnErr result (self.new ≡ self.old) }
     {
         if self.accepted == MOST_CHANGES {
             return Err(Refusal::ChangesSpent);
@@ -256,9 +248,11 @@ impl Editor {
         focus: &ViewPlace,
     ) -> Result<Vec<Edit>, Refusal>
         requires { IsCurrent (λ object. gives (object.vtable, object.value)) self.now }
-        ensures ok { IfOk result (λ edits. selecting (conversion_of (λ object. gives (object.vtable, object.value)) self.now.list) self.now.document.state.document (anchor.now.path ++ anchor.now.offset ∷ []) (focus.now.path ++ focus.now.offset ∷ []) ≡ Ok edits.items) }
+        ensures ok { IfOk result (λ edits. selecting (conversion_in (λ object. gives (object.vtable, object.value)) self.now) (document_in self.now)
+            (anchor.now.path ++ anchor.now.offset ∷ []) (focus.now.path ++ focus.now.offset ∷ []) ≡ Ok edits.items) }
         ensures refused { IfErr result (λ refusal. refusal ≢ Refusal.NoMemory
-            → selecting (conversion_of (λ object. gives (object.vtable, object.value)) self.now.list) self.now.document.state.document (anchor.now.path ++ anchor.now.offset ∷ []) (focus.now.path ++ focus.now.offset ∷ []) ≡ Err refusal) }
+            → selecting (conversion_in (λ object. gives (object.vtable, object.value)) self.now) (document_in self.now)
+            (anchor.now.path ++ anchor.now.offset ∷ []) (focus.now.path ++ focus.now.offset ∷ []) ≡ Err refusal) }
     {
         // That the document is sound is a clause of this call.
         let _tree = self.document.tree();
@@ -271,15 +265,17 @@ impl Editor {
 
     /// Its document. It takes no memory.
     pub fn document(&self) -> &Document
-        ensures { result.now.state ≡ state_in self.now }
+        ensures { result.now.state.document ≡ document_in self.now }
     {
         &self.document
     }
 
-    /// The view of its document. It takes no memory.
+    /// The view of its document, in which each element of the document has the number that `view_number` answers. It takes no memory.
     pub fn view(&self) -> &View
         requires { IsCurrent (λ object. gives (object.vtable, object.value)) self.now }
-        ensures { content result.now.nodes ≡ downcast (config_in (λ object. gives (object.vtable, object.value)) self.now).conversion (state_in self.now).document }
+        ensures content { content result.now.nodes ≡ downcast (conversion_in (λ object. gives (object.vtable, object.value)) self.now) (document_in self.now) }
+        ensures numbered { uncounted result.now.nodes
+            ≡ uncounted (numbered_downcast (numbers_in self.now) (conversion_in (λ object. gives (object.vtable, object.value)) self.now) (document_in self.now)) }
     {
         &self.view
     }
@@ -289,7 +285,7 @@ impl Editor {
     pub fn view_number(&self, id: ElementId) -> Option<ViewNumber>
         requires { IsCurrent (λ object. gives (object.vtable, object.value)) self.now }
         ensures number { result ≡ numbers_in self.now id }
-        ensures numbered { AreNumbered (numbers_in self.now) (ids_of (state_in self.now).document.items) }
+        ensures numbered { AreNumbered (numbers_in self.now) (ids_of (document_in self.now).items) }
     {
         self.mapper.number(id)
     }
@@ -298,11 +294,9 @@ impl Editor {
     pub fn shown_selection(&self, alloc: Global) -> Result<(ViewPlace, ViewPlace), NoMemory>
         requires { IsCurrent (λ object. gives (object.vtable, object.value)) self.now }
         ensures start { IfOk result (λ both. both.0.path ++ both.0.offset ∷ []
-            ≡ seen (config_in (λ object. gives (object.vtable, object.value)) self.now).conversion (state_in self.now).document
-            (state_in self.now).document.selection.range.start) }
+            ≡ seen (conversion_in (λ object. gives (object.vtable, object.value)) self.now) (document_in self.now) (document_in self.now).selection.range.start) }
         ensures end { IfOk result (λ both. both.1.path ++ both.1.offset ∷ []
-            ≡ seen (config_in (λ object. gives (object.vtable, object.value)) self.now).conversion (state_in self.now).document
-            (state_in self.now).document.selection.range.end) }
+            ≡ seen (conversion_in (λ object. gives (object.vtable, object.value)) self.now) (document_in self.now) (document_in self.now).selection.range.end) }
     {
         // That the document is sound is a clause of this call.
         let _tree = self.document.tree();

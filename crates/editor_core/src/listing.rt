@@ -1,11 +1,12 @@
 //! From the converters of settings to the list of an editor.
 ghost use Rattle.std.specs.Prelude.{◌≡◌, ◌<◌, ◌==◌, ℕ, List, [], map, length, false, None, IfOk, IfSome, OnOk, option_map};
 ghost use Rattle.std.specs.Str.{bytes_eq};
-ghost use Rattle.converter_read.specs.PlanNames.{is_custom, first_unknown_custom};
+ghost use Rattle.converter_read.specs.PlanNames.{is_custom};
 ghost use Rattle.schema_definitions.specs.Allowed.{inline_objects};
-ghost use Rattle.conv_rules.specs.Listed.{added, listed_of, conversion_of};
-ghost use Rattle.program_definitions.specs.Converters.{giving_of, converter_of, all_added, names_of};
-ghost use Rattle.editor_core.specs.HandedIn.{givings_of, place_from, IsThere};
+ghost use Rattle.converter_definitions.specs.Priority.{added};
+ghost use Rattle.conv_rules.specs.Listed.{listed_of, conversion_of};
+ghost use Rattle.program_definitions.specs.Converters.{giving_of, converter_of, all_added, names_of, conversion_by};
+ghost use Rattle.editor_core.specs.HandedIn.{givings_of, place_from, IsThere, AreHandedIn};
 
 use crate::extensions::{Extensions, NamedConverter};
 use ck_base::NoMemory;
@@ -70,7 +71,7 @@ fn with_plans(
     plans: Vec<ConverterPlan>,
     converters: Vec<NamedConverter>,
 ) -> Result<ConverterList, NoMemory>
-    requires { first_unknown_custom (names_of (givings_of (λ object. gives object) converters.items)) plans.items ≡ None }
+    requires { AreHandedIn plans.items (givings_of (λ object. gives object) converters.items) }
     ensures converters { IfOk result (λ made. listed_of (λ object. gives object) made
         ≡ all_added (givings_of (λ object. gives object) converters.items) (listed_of (λ object. gives object) list) plans.items) }
     ensures rest { IfOk result (λ made. record (conversion_of (λ object. gives object) made) { converters = [] } ≡ record (conversion_of (λ object. gives object) list) { converters = [] }) }
@@ -92,14 +93,9 @@ pub fn list_of(
     indexed: Vec<Name>,
     extensions: Extensions,
 ) -> Result<ConverterList, NoMemory>
-    requires { first_unknown_custom (names_of (givings_of (λ object. gives object) extensions.converters.items)) plans.items ≡ None }
+    requires { AreHandedIn plans.items (givings_of (λ object. gives object) extensions.converters.items) }
     ensures { IfOk result (λ list. conversion_of (λ object. gives object) list
-        ≡ record {
-          converters = map (λ entry. entry.1) (all_added (givings_of (λ object. gives object) extensions.converters.items) [] plans.items);
-          objects = inline_objects schema.now;
-          joined = version == 2;
-          indexed = indexed.items;
-        }) }
+        ≡ conversion_by (givings_of (λ object. gives object) extensions.converters.items) version plans.items (inline_objects schema.now) indexed.items) }
 {
     let objects = schema.inline_objects()?;
     let list = ConverterList::new(alloc, objects, version == 2, indexed);

@@ -2,22 +2,12 @@
 //! settings are accepted.
 #![tactic(auto)]
 
-mod answering;
-pub mod extensions;
-mod lines;
-mod opening;
-mod printing;
-pub mod run;
-mod tasks;
-
 ghost use Rattle.std.specs.Prelude.{◌≡◌, ◌<◌};
 
-use ck_base::NoMemory;
 use ck_base::steps::{Quiet, Steps};
 use ck_io::{RealFiles, RealSink};
-use editor_core::{Extensions, NamedConverter};
-use extensions::{Checkbox, HeadingAnchor, Mention, name_of};
-use run::{Status, run};
+use editor_run::run::Status;
+use editor_run::run_product;
 use std::io::ErrorKind;
 use std::marker::Brand;
 use std::process::ExitCode;
@@ -35,49 +25,27 @@ fn words_of(runtime: &(impl Env + AllocGlobal)) -> io::Result<Vec<String>> {
     Ok(words)
 }
 
-/// Runs the program with this product's converters, over the real file system and standard output. It answers the status of `run`, or
-/// `NoMemory` where there was none for the converters.
-#[tactic(auto, unfolding(ck_base::specs::Name::is_name))]
-fn run_product<B: ledger::Ledger>(
-    runtime: HostRuntime,
-    words: Vec<String>,
-    blank: Blank,
-) -> Result<u8, NoMemory>
+/// Runs the program over the real file system and standard output, and answers its status.
+fn run_words<B: ledger::Ledger>(runtime: HostRuntime, words: Vec<String>, blank: Blank) -> u8
     requires name { blank.name ≡ B.name }
     requires parts { blank.parts ≡ B.parts }
     requires some { 0 < blank.parts }
 {
-    let alloc = runtime.alloc();
-    let converters = vec![in alloc;
-        NamedConverter {
-            name: name_of(alloc, "mention")?,
-            object: Box::new(alloc, Mention)?,
-        },
-        NamedConverter {
-            name: name_of(alloc, "checkbox")?,
-            object: Box::new(alloc, Checkbox)?,
-        },
-        NamedConverter {
-            name: name_of(alloc, "headingAnchor")?,
-            object: Box::new(alloc, HeadingAnchor)?,
-        },
-    ]?;
     let mut files = RealFiles::new(&runtime);
     let mut out = RealSink::new(&runtime);
     let mut steps = Steps::new(Quiet::<B>::new(blank));
-    let status = run(
-        alloc,
+    run_product(
+        runtime.alloc(),
         words.as_slice(),
         &mut files,
         &mut out,
-        Extensions { converters },
         &mut steps,
-    );
-    Ok(status)
+    )
+    .unwrap_or(Status::NoMemory.code())
 }
 
-/// Runs the program on the words of the command line. It answers the status of `run`, and that for want of memory also where there was none for the
-/// words or the product's converters. Words that aren't UTF-8 count as words of no form.
+/// Runs the program on the words of the command line. It ends with the status of `run`, which is that for want of memory also where there was none
+/// for the words or the product's converters. Words that aren't UTF-8 count as words of no form.
 fn main(runtime: HostRuntime) -> ExitCode {
     let words = match words_of(&runtime) {
         Ok(words) => words,
@@ -87,8 +55,5 @@ fn main(runtime: HostRuntime) -> ExitCode {
         // A word that isn't UTF-8 is of no form.
         Err(_) => Vec::new(runtime.alloc()),
     };
-    match run_product::<Brand>(runtime, words, Blank::new(1)) {
-        Ok(status) => ExitCode::from(status),
-        Err(_) => ExitCode::from(Status::NoMemory.code()),
-    }
+    ExitCode::from(run_words::<Brand>(runtime, words, Blank::new(1)))
 }

@@ -4,7 +4,7 @@ use Rattle.std.specs.Prelude.{slice_get, if◌then◌else◌, nat_le, nat_lt, �
 use Rattle.view_definitions.specs.Node.{ViewNode, ViewNodes, text, element, none, more, list_of, children_of}
 use Rattle.downcast_definitions.specs.Meant.{by_kind, length_by_kind, model_length, inner_length}
 use Rattle.pos_mapper.specs.Bindings.{Slot}
-use Rattle.pos_mapper.specs.Mapped.{uncounted_node, uncounted_nodes, uncounted}
+use Rattle.view_definitions.specs.Node.{uncounted_node, uncounted_nodes, uncounted}
 use Rattle.pos_mapper.specs.Reading.{Slots, Below, lengths, in_position, before_node, only_number, between_nodes, content_of, in_slot, in_node, in_nodes, at_step, on_way, read}
 
 mutual

@@ -4,8 +4,7 @@ use Rattle.item_definitions.specs.Item.{Item, Items, items_of}
 use Rattle.item_definitions.specs.Item as items
 use Rattle.item_definitions.specs.Position.{IsIn}
 use Rattle.document_definitions.specs.Document.{Document}
-use Rattle.view_definitions.specs.Node.{ViewNode, ViewNodes}
-use Rattle.view_definitions.specs.Node as nodes
+use Rattle.view_definitions.specs.Node.{ViewNode, uncounted}
 use Rattle.converter_definitions.specs.Form.{Form, Forms, slot, text, element, none, more, list_of}
 use Rattle.converter_definitions.specs.Shape.{slot_in}
 use Rattle.converter_definitions.specs.Gives.{Conversion}
@@ -16,21 +15,6 @@ use Rattle.downcast_definitions.specs.Shown.{HasShapes}
 use Rattle.downcast_definitions.specs.Meant.{meant}
 use Rattle.model_tree.specs.Limits.{IsTree}
 use Rattle.pos_mapper.specs.Bindings.{Slot, CaretPlace, Mapper, bound_id, bound_number, numbers_of}
-
-abbrev mutual
-  -- the same node without the counts of changes in it
-  pub uncounted_node : ViewNode → ViewNode
-  uncounted_node (nodes.text scalars) = nodes.text scalars
-  uncounted_node (nodes.element head children) = nodes.element (record head { changes = 0 }) (uncounted_nodes children)
-
-  -- nodes as an element has them, each so
-  pub uncounted_nodes : ViewNodes → ViewNodes
-  uncounted_nodes nodes.none = nodes.none
-  uncounted_nodes (nodes.more node rest) = nodes.more (uncounted_node node) (uncounted_nodes rest)
-
--- a list of nodes without the counts of changes
-abbrev pub uncounted : List ViewNode → List ViewNode
-uncounted list = map uncounted_node list
 
 -- one of three, by where the slot of a node is: nowhere in it, the node itself, or in it
 abbrev pub by_slot : {A : Type 0} → Option (List ℕ) → A → A → A → A

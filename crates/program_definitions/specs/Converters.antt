@@ -4,11 +4,12 @@ use Rattle.std.specs.Prelude.{ℕ, ℤ, List, [], ◌∷◌, map, ◌==◌, Opti
 use Rattle.std.specs.Str.{bytes_eq}
 use Rattle.schema_definitions.specs.Allowed.{inline_objects}
 use Rattle.converter_definitions.specs.Gives.{Converter, stock, boxed, Conversion}
+use Rattle.converter_definitions.specs.Gives.{Giving}
+use Rattle.converter_definitions.specs.Priority.{added}
 use Rattle.converter_read.specs.declared.plan.ConverterPlan.{ConverterPlan}
 use Rattle.converter_read.specs.declared.plan.PlanEntry.{PlanEntry}
 use Rattle.converter_read.specs.declared.plan.PlanEntry.TheVariants.{Stock, Boxed}
-use Rattle.settings_definitions.specs.Settings.{Settled}
-use Rattle.conv_rules.specs.Listed.{Giving, added}
+use Rattle.settings_definitions.specs.Settings.{Settings}
 
 -- what products' converters give, by their names
 abbrev pub Givings : Type 0
@@ -33,11 +34,16 @@ all_added givings made (plan ∷ plans) = all_added givings (added (plan.priorit
 abbrev pub names_of : Givings → List (List ℕ)
 names_of givings = map (λ entry. entry.0) givings
 
--- in files of version 2 neighbouring layers are joined
-abbrev pub conversion_of : Givings → Settled → Conversion
-conversion_of givings settled = record {
-  converters = map (λ entry. entry.1) (all_added givings [] settled.converters);
-  objects = inline_objects settled.rules;
-  joined = settled.version == 2;
-  indexed = settled.indexed;
+-- what converters of settings make of elements, with the names of the objects in the text and those of the elements that are counted, where
+-- neighbouring layers are joined in version 2
+abbrev pub conversion_by : Givings → ℕ → List ConverterPlan → List (List ℕ) → List (List ℕ) → Conversion
+conversion_by givings version plans objects indexed = record {
+  converters = map (λ entry. entry.1) (all_added givings [] plans);
+  objects = objects;
+  joined = version == 2;
+  indexed = indexed;
 }
+
+-- what settings convert by
+abbrev pub conversion_of : Givings → Settings → Conversion
+conversion_of givings settings = conversion_by givings settings.version settings.converters (inline_objects settings.rules) settings.indexed

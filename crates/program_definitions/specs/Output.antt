@@ -2,14 +2,14 @@
 use Rattle.std.specs.Prelude.{ℕ, List, [], ◌++◌, nat_lt, Option, Some, None, Result, Ok, Err, if◌then◌else◌, codes, length}
 use Rattle.ck_base.specs.declared.faults.Refusal.{Refusal}
 use Rattle.config_read.specs.Texts.{settings_text}
-use Rattle.document_definitions.specs.Document.{State}
+use Rattle.document_definitions.specs.Document.{Document}
 use Rattle.machine_definitions.specs.Lines.{lines_of}
 use Rattle.machine_definitions.specs.Refusals.{refusal_text}
-use Rattle.settings_definitions.specs.Settings.{Settled, settings_of}
+use Rattle.settings_definitions.specs.Settings.{Settings, settings_of}
 use Rattle.settings_definitions.specs.declared.fault.SettingsFault.{SettingsFault}
 use Rattle.step_definitions.specs.Step.{opened}
 use Rattle.program_definitions.specs.Converters.{Givings, names_of, conversion_of}
-use Rattle.program_definitions.specs.Machine.{Config, answers}
+use Rattle.program_definitions.specs.Machine.{Config, Machine, beginning, answers}
 use Rattle.program_definitions.specs.Task.{Task, run, check, settings_name, task_of}
 
 -- what the program writes, and its status
@@ -48,39 +48,44 @@ abbrev pub most_script_bytes : ℕ
 most_script_bytes = 67108864
 
 -- the answers to a script on an opened document: a script that isn't held gives 4, and one over its limit 6
-abbrev pub script_outcome : Config → State → Option (List ℕ) → Outcome
-script_outcome config state None = silent 4
-script_outcome config state (Some script) = if nat_lt most_script_bytes (length script) then silent 6
-    else record { bytes = answers config state 1 (lines_of script); status = 0 }
+abbrev pub script_outcome : Machine → Option (List ℕ) → Outcome
+script_outcome machine None = silent 4
+script_outcome machine (Some script) = if nat_lt most_script_bytes (length script) then silent 6
+    else record { bytes = answers machine 1 (lines_of script); status = 0 }
 
 -- what is done with an opened document
-abbrev pub done_with : (List ℕ → Option (List ℕ)) → Task → Config → State → Outcome
-done_with held (run settings script) config state = script_outcome config state (held script)
-done_with held (check settings) config state = record { bytes = accepted_settings; status = 0 }
-
--- the document that settings start with, or why there is none
-abbrev pub started : (Config → State → Outcome) → Config → Result State Refusal → Outcome
-started next config (Ok state) = next config state
-started next config (Err refusal) = refused (refused_start refusal)
+abbrev pub done : (List ℕ → Option (List ℕ)) → Task → Machine → Outcome
+done held (run settings script) machine = script_outcome machine (held script)
+done held (check settings) machine = record { bytes = accepted_settings; status = 0 }
 
 -- what settings say of a document's editing and showing, where these converters are handed in
-abbrev pub config_of : Givings → Settled → Config
-config_of givings settled = record { rules = settled.rules; conversion = conversion_of givings settled }
+abbrev pub config_of : Givings → Settings → Config
+config_of givings settings = record { terms = record { rules = settings.rules }; conversion = conversion_of givings settings }
 
--- the settings, or why there are none
-abbrev pub settled_outcome : Givings → (Config → State → Outcome) → Result Settled SettingsFault → Outcome
-settled_outcome givings next (Ok settled) = started next (config_of givings settled) (opened settled.rules settled.start)
-settled_outcome givings next (Err fault) = refused (refused_settings fault)
+-- the machine on the document that is opened, or how the run ends where that is refused
+abbrev pub begun : Config → Result Document Refusal → Result Machine Outcome
+begun config (Ok document) = Ok (beginning config document)
+begun config (Err refusal) = Err (refused (refused_start refusal))
 
--- a settings file that isn't held gives 4, and one over its limit 6
-abbrev pub settings_outcome : Givings → (Config → State → Outcome) → Option (List ℕ) → Outcome
-settings_outcome givings next None = silent 4
-settings_outcome givings next (Some bytes) =
-    if nat_lt most_settings_bytes (length bytes) then silent 6 else settled_outcome givings next (settings_of (names_of givings) bytes)
+-- the machine of settings, or how the run ends where these are refused
+abbrev pub machine_of : Givings → Result Settings SettingsFault → Result Machine Outcome
+machine_of givings (Ok settings) = begun (config_of givings settings) (opened (config_of givings settings).terms settings.start)
+machine_of givings (Err fault) = Err (refused (refused_settings fault))
+
+-- the machine of the bytes of a settings file: one that isn't held gives 4, and one over its limit 6
+abbrev pub machine_from : Givings → Option (List ℕ) → Result Machine Outcome
+machine_from givings None = Err (silent 4)
+machine_from givings (Some bytes) =
+    if nat_lt most_settings_bytes (length bytes) then Err (silent 6) else machine_of givings (settings_of (names_of givings) bytes)
+
+-- a task on a machine, or the end of the run that has none
+abbrev pub finished : (List ℕ → Option (List ℕ)) → Task → Result Machine Outcome → Outcome
+finished held task (Ok machine) = done held task machine
+finished held task (Err outcome) = outcome
 
 -- a task with the files that are held so
 abbrev pub task_outcome : Givings → (List ℕ → Option (List ℕ)) → Task → Outcome
-task_outcome givings held task = settings_outcome givings (done_with held task) (held (settings_name task))
+task_outcome givings held task = finished held task (machine_from givings (held (settings_name task)))
 
 abbrev pub outcome_of : Givings → (List ℕ → Option (List ℕ)) → Option Task → Outcome
 outcome_of givings held None = record { bytes = usage; status = 2 }

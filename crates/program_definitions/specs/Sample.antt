@@ -3,22 +3,22 @@ use Rattle.std.specs.Prelude.{[], ◌∷◌, false, codes}
 use Rattle.item_definitions.specs.Item.{element, none}
 use Rattle.item_definitions.specs.Position.{between}
 use Rattle.document_definitions.specs.Selection.{selected}
-use Rattle.document_definitions.specs.Document.{State}
+use Rattle.document_definitions.specs.Document.{Document}
 use Rattle.schema_definitions.specs.Sample as schema
 use Rattle.converter_definitions.specs.Sample as converters
-use Rattle.program_definitions.specs.Machine.{Config}
+use Rattle.program_definitions.specs.Machine.{Config, Machine, beginning}
 
 -- an empty paragraph with the selection in it
-abbrev pub one_paragraph : State
+abbrev pub one_paragraph : Document
 one_paragraph = record {
-  document = record {
-    items = element 1 (codes "paragraph") [] none ∷ [];
-    markers = [];
-    selection = selected (between (0 ∷ 0 ∷ []) (0 ∷ 0 ∷ [])) false;
-    next_id = 2;
-  };
-  cells = [];
+  items = element 1 (codes "paragraph") [] none ∷ [];
+  markers = [];
+  selection = selected (between (0 ∷ 0 ∷ []) (0 ∷ 0 ∷ [])) false;
+  next_id = 2;
 }
 
 abbrev pub config : Config
-config = record { rules = schema.sample; conversion = converters.sample }
+config = record { terms = record { rules = schema.sample }; conversion = converters.sample }
+
+abbrev pub machine : Machine
+machine = beginning config one_paragraph

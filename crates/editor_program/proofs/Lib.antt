@@ -1,9 +1,0 @@
-pub mod FirstLine
-pub mod Words
-pub mod Sending
-pub mod Starting
-pub mod Changing
-pub mod Ascii
-pub mod Printed
-pub mod Names
-pub mod Settled

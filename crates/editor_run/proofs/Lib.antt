@@ -1,0 +1,12 @@
+pub mod FirstLine
+pub mod Words
+pub mod Sending
+pub mod Starting
+pub mod Told
+pub mod Ascii
+pub mod Printed
+pub mod Names
+pub mod FromBytes
+pub mod Ending
+pub mod Scripts
+pub mod Causes
