@@ -9,7 +9,7 @@ use Rattle.view_definitions.specs.Row.{Content, leaf, item, character, caret, En
 use Rattle.view_definitions.proofs.Joins.{PlainPieces, leaf_none, item_none}
 use Rattle.downcast_definitions.specs.Place.{piece_size, pieces_size, Passed, none_passed, node_more, character_more, behind_content, begins_with_text, as_place, in_pieces}
 use Rattle.down_whole.specs.Between.{Opened, is_in, opened_if, opened_last, last_text, first_text, end_of, caret_at}
-use Rattle.down_whole.proofs.Around.{inner_first, without_first, put-is, around, behind, none_is, first-shown, inner-plain, some-shown}
+use Rattle.down_whole.proofs.CaretInRow.{inner_first, without_first, put-is, around, behind, none_is, first-shown, inner-plain, some-shown}
 
 -- ---- sizes
 

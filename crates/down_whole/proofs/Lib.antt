@@ -1,14 +1,14 @@
 pub mod Filling
 pub mod Seams
-pub mod Around
+pub mod CaretInRow
 pub mod Found
 pub mod Writing
 pub mod Ways
 pub mod Rows
-pub mod Finish
+pub mod WholeRow
 pub mod Bindings
 pub mod Making
-pub mod Partway
+pub mod MadeItems
 pub mod Places
 pub mod Mapping
 pub mod Boundary

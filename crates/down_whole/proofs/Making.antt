@@ -26,7 +26,7 @@ use Rattle.down_whole.specs.Written.{Written, nothing_written, with_entry, with_
 use Rattle.down_whole.specs.Made.{run_row, Stretch, behind_items, whole, Stage, after_items, Made, MadeContent, finished, around_front, place_found, caret_found}
 use Rattle.down_whole.proofs.Bindings.{bindings-append, agree-front, agree-behind, with_bindings-append}
 use Rattle.down_whole.proofs.Rows.{inner-row-front, front-append, with_row-append}
-use Rattle.down_whole.proofs.Finish.{finish-none, finish-kept, finish-nowhere, finish-some, finish-found}
+use Rattle.down_whole.proofs.WholeRow.{finish-none, finish-kept, finish-nowhere, finish-some, finish-found}
 
 run-more : (scene : Scene) (path : List ℕ) (offset at : ℕ) (attributes : Attributes) (scalars : List ℕ) (scalar : ℕ) → at ≡ offset + length scalars
     → run_row scene path offset attributes (scalars ++ scalar ∷ [])

@@ -18,7 +18,7 @@ use Rattle.downcast_definitions.proofs.Numbering.{place-in-plain}
 use Rattle.pos_mapper.specs.Bindings.{CaretPlace}
 use Rattle.pos_mapper.specs.Mapped.{caret_place}
 use Rattle.down_whole.specs.Found.{is_in_content, found_here, found_in_item, found_among}
-use Rattle.down_whole.proofs.Finish.{has_in_content, offset-in, content-offset, found-out, found-in}
+use Rattle.down_whole.proofs.WholeRow.{has_in_content, offset-in, content-offset, found-out, found-in}
 
 -- that a position is neither in the content of the element at a path nor in an element in it
 abbrev Outside : List ℕ → List ℕ → Type 0

@@ -12,7 +12,7 @@ use Rattle.downcast_definitions.proofs.Numbering.{numbers-dropped}
 use Rattle.model_doc.specs.Held.{Moment, Held, present, letting_go, returned}
 use Rattle.pos_mapper.specs.Bindings.{Mapper, numbers_of}
 use Rattle.pos_mapper.specs.Mapped.{IsMapped}
-use Rattle.pos_mapper.proofs.Blind.{same-content}
+use Rattle.pos_mapper.proofs.PlainNodes.{same-content}
 use Rattle.downcast_definitions.specs.Numbered.{AreNumbered}
 use Rattle.editor_core.specs.declared.editor.Editor.{Editor}
 use Rattle.editor_core.specs.AsMachine.{conversion_in, IsCurrent}

@@ -9,7 +9,7 @@ use Rattle.downcast_definitions.specs.Rows.{row_of}
 use Rattle.downcast_definitions.specs.Place.{pieces_size, Passed, none_passed, node_more, behind_content, begins_with_text, Found, in_or_before_text, as_place, as_node, in_pieces}
 use Rattle.downcast_definitions.specs.Seen.{entries_before, mark_at, boundary_place, node_place}
 use Rattle.downcast_definitions.specs.Meant.{model_length}
-use Rattle.pos_mapper.specs.Seeking.{place_in, place_among, item_among, gap_in, gap_among, is_character, before_item, seen_among}
+use Rattle.downcast_definitions.specs.Among.{place_in, place_among, item_among, gap_in, gap_among, is_character, before_item, seen_among}
 
 -- a place in a list that begins at this index of another
 abbrev pub shift : ℕ → List ℕ → List ℕ

@@ -14,7 +14,7 @@ use Rattle.downcast_definitions.specs.Seen.{node_place}
 use Rattle.downcast_definitions.specs.Shown.{HaveShapes}
 use Rattle.downcast_definitions.proofs.Items.{node-seen}
 use Rattle.downcast_definitions.proofs.Tests.{below, above}
-use Rattle.pos_mapper.specs.Seeking.{by_around, place_in, place_among}
+use Rattle.downcast_definitions.specs.Among.{by_around, place_in, place_among}
 
 -- places in items mean themselves
 abbrev pub Open : Inners → Type 0

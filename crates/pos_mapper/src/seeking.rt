@@ -3,7 +3,8 @@ ghost use Rattle.std.specs.Prelude.{◌≡◌, ◌<◌, ◌≤◌, ◌+◌, ◌^
 ghost use Rattle.item_definitions.specs.Children.{parent_of, offset_of};
 ghost use Rattle.view_definitions.specs.Node.{nodes_of, children_of};
 ghost use Rattle.pos_mapper.specs.Reading.{slots_in};
-ghost use Rattle.pos_mapper.specs.Seeking.{below_index, is_here, caret_among, seen_at, inside, slot_at, children_at, in_item, shown_at, before_item, seen_among, holder, around, place_in, place_among, item_in, item_among, gap_in, gap_among, is_character};
+ghost use Rattle.downcast_definitions.specs.Among.{before_item, seen_among, place_in, place_among, item_in, item_among, gap_in, gap_among, is_character};
+ghost use Rattle.pos_mapper.specs.Seeking.{below_index, is_here, caret_among, seen_at, inside, slot_at, children_at, in_item, shown_at, holder, around};
 
 use crate::lengths::{kind_of, node_length};
 use crate::reading::{content_of, slot_of};
@@ -58,7 +59,7 @@ fn push_place_from(
 
 /// Puts the place of the item of a number behind others.
 #[cycle(places)]
-#[tactic(auto, using(crate::proofs::Held::place_first, crate::proofs::Held::place_nowhere))]
+#[tactic(auto, using(crate::proofs::Holder::place_first, crate::proofs::Holder::place_nowhere))]
 fn push_place(
     nodes: &[Detached],
     number: u32,
@@ -76,7 +77,7 @@ fn push_place(
 
 /// Puts the place of the item of a number in a node behind others.
 #[cycle(places)]
-#[tactic(auto, using(crate::proofs::Held::place_around, crate::proofs::Held::place_itself, crate::proofs::Held::place_text))]
+#[tactic(auto, using(crate::proofs::Holder::place_around, crate::proofs::Holder::place_itself, crate::proofs::Holder::place_text))]
 fn push_inside(
     node: &Detached,
     number: u32,
@@ -97,7 +98,7 @@ fn push_inside(
 
 /// The node of the item of a number; a character's is its text. None exactly where there are not so many items.
 #[cycle(items)]
-#[tactic(auto, using(crate::proofs::Held::item_found, crate::proofs::Held::item_nowhere))]
+#[tactic(auto, using(crate::proofs::Holder::item_found, crate::proofs::Holder::item_nowhere))]
 fn item_at(nodes: &[Detached], number: u32) -> Option<&Detached>
     ensures { option_copied result ≡ item_among (nodes_of nodes.now) number }
 {
@@ -109,7 +110,7 @@ fn item_at(nodes: &[Detached], number: u32) -> Option<&Detached>
 
 /// The node of the item of a number in a node.
 #[cycle(items)]
-#[tactic(auto, using(crate::proofs::Held::item_around, crate::proofs::Held::item_itself))]
+#[tactic(auto, using(crate::proofs::Holder::item_around, crate::proofs::Holder::item_itself))]
 fn item_inside(node: &Detached, number: u32) -> Option<&Detached>
     ensures { option_copied result ≡ item_in node.now number }
 {
@@ -120,7 +121,7 @@ fn item_inside(node: &Detached, number: u32) -> Option<&Detached>
 }
 
 /// Puts the place between the items before and behind a boundary behind others, where the first of the nodes has this index.
-#[tactic(auto, using(crate::proofs::Held::gap_nowhere))]
+#[tactic(auto, using(crate::proofs::Holder::gap_nowhere))]
 fn push_gap_from(
     nodes: &[Detached],
     base: u64,
@@ -140,7 +141,7 @@ fn push_gap_from(
 
 /// Puts the place between the items before and behind a boundary behind others.
 #[cycle(gaps)]
-#[tactic(auto, using(crate::proofs::Held::gap_first, crate::proofs::Held::gap_end))]
+#[tactic(auto, using(crate::proofs::Holder::gap_first, crate::proofs::Holder::gap_end))]
 fn push_gap(nodes: &[Detached], number: u32, place: &mut Vec<u64>) -> Result<(), NoMemory>
     ensures { OnOk result (place.new.items ≡ place.old.items ++ gap_among (nodes_of nodes.now) number 0) }
 {
@@ -154,7 +155,7 @@ fn push_gap(nodes: &[Detached], number: u32, place: &mut Vec<u64>) -> Result<(),
 
 /// Puts the place between the items before and behind a boundary in a node behind others.
 #[cycle(gaps)]
-#[tactic(auto, using(crate::proofs::Held::gap_around, crate::proofs::Held::gap_itself, crate::proofs::Held::gap_before))]
+#[tactic(auto, using(crate::proofs::Holder::gap_around, crate::proofs::Holder::gap_itself, crate::proofs::Holder::gap_before))]
 fn push_gap_inside(node: &Detached, number: u32, place: &mut Vec<u64>) -> Result<(), NoMemory>
     ensures { OnOk result (place.new.items ≡ place.old.items ++ gap_in node.now number) }
 {
@@ -195,7 +196,7 @@ fn push_before(
 }
 
 /// Puts the place where a boundary is seen behind others, at which the caret doesn't stand.
-#[tactic(auto, using(crate::proofs::Held::seen_behind, crate::proofs::Held::seen_before, crate::proofs::Held::seen_first))]
+#[tactic(auto, using(crate::proofs::Holder::seen_behind, crate::proofs::Holder::seen_before, crate::proofs::Holder::seen_first))]
 fn push_seen(
     nodes: &[Detached],
     base: u64,
@@ -317,7 +318,7 @@ fn inside_step<'a>(
 }
 
 /// A way without its last index, and that index.
-#[tactic(auto, using(crate::proofs::Held::front_is, crate::proofs::Held::last_is))]
+#[tactic(auto, using(crate::proofs::Holder::front_is, crate::proofs::Holder::last_is))]
 fn split_way(way: &[u64]) -> (&[u64], u64)
     ensures front { result.0.now ≡ parent_of way.now }
     ensures last { result.1 ≡ offset_of way.now }

@@ -16,7 +16,7 @@ use Rattle.down_whole.specs.Made.{MadeContent}
 use Rattle.down_whole.specs.Bound.{elements_among}
 use Rattle.down_whole.proofs.Bindings.{among-more}
 use Rattle.down_whole.proofs.Making.{characters, no_elements, none_within, run-made, element-made, content-made}
-use Rattle.down_whole.proofs.Partway.{partway-step, run-shapes, next-node, text-room, element-room, element-shapes, calls-so-far, calls-more}
+use Rattle.down_whole.proofs.MadeItems.{partway-step, run-shapes, next-node, text-room, element-room, element-shapes, calls-so-far, calls-more}
 use Rattle.down_whole.proofs.content.+content.Goals as goal
 
 pub push_run-requires-clause-few : goal.push_run-requires-clause-few

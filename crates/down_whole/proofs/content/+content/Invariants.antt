@@ -6,7 +6,7 @@ use Rattle.down_whole.specs.contracts.content.content as contract
 use Rattle.down_whole.specs.Bound.{elements_among}
 use Rattle.down_whole.specs.Viewed.{written}
 use Rattle.down_whole.specs.Scenes.{scene_with}
-use Rattle.down_whole.proofs.Partway.{Partway}
+use Rattle.down_whole.proofs.MadeItems.{Partway}
 use Rattle.down_whole.proofs.content.+content.Given as goal
 
 abbrev pub decreases-content : goal.decreases-content

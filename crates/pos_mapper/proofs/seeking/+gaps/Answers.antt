@@ -1,7 +1,7 @@
 use Rattle.std.proofs.Common.{◌≡◌, ◌++◌, [], ◌∷◌, List, ℕ, arith, sym, ap, ◌∙◌, subst, append_assoc, append-nil}
 use Rattle.std.specs.Prelude.{OnOk}
-use Rattle.pos_mapper.specs.Seeking.{gap_in}
-use Rattle.pos_mapper.proofs.Held.{held-within, around_depth, gap_first, gap_before}
+use Rattle.downcast_definitions.specs.Among.{gap_in}
+use Rattle.pos_mapper.proofs.Holder.{held-within, around_depth, gap_first, gap_before}
 use Rattle.pos_mapper.proofs.seeking.+gaps.Goals as goal
 
 pub push_gap-push_gap_inside-requires : goal.push_gap-push_gap_inside-requires

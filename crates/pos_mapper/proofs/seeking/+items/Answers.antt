@@ -1,5 +1,5 @@
 use Rattle.std.proofs.Common.{arith}
-use Rattle.pos_mapper.proofs.Held.{held-within, around_depth}
+use Rattle.pos_mapper.proofs.Holder.{held-within, around_depth}
 use Rattle.pos_mapper.proofs.seeking.+items.Goals as goal
 
 pub item_at-item_inside-requires : goal.item_at-item_inside-requires

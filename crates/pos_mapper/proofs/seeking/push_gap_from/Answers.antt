@@ -1,7 +1,7 @@
 use Rattle.std.proofs.Common.{◌≡◌, ◌++◌, ◌+◌, [], ◌∷◌, List, ℕ, arith, sym, ap, ◌∙◌, subst, append_assoc}
 use Rattle.std.specs.Prelude.{OnOk}
-use Rattle.pos_mapper.specs.Seeking.{gap_in}
-use Rattle.pos_mapper.proofs.Held.{held-within, gap_found}
+use Rattle.downcast_definitions.specs.Among.{gap_in}
+use Rattle.pos_mapper.proofs.Holder.{held-within, gap_found}
 use Rattle.pos_mapper.proofs.seeking.push_gap_from.Goals as goal
 
 pub overflow_add-base-2 : goal.overflow_add-base-2

@@ -1,7 +1,7 @@
 use Rattle.std.proofs.Common.{◌≡◌, ◌++◌, ◌+◌, [], ◌∷◌, List, ℕ, arith, sym, ap, ◌∙◌, subst, append_assoc, append-nil}
 use Rattle.std.specs.Prelude.{OnOk}
-use Rattle.pos_mapper.specs.Seeking.{place_in}
-use Rattle.pos_mapper.proofs.Held.{held-within, place_found, place_nowhere}
+use Rattle.downcast_definitions.specs.Among.{place_in}
+use Rattle.pos_mapper.proofs.Holder.{held-within, place_found, place_nowhere}
 use Rattle.pos_mapper.proofs.seeking.push_place_from.Goals as goal
 
 pub overflow_add-base : goal.overflow_add-base

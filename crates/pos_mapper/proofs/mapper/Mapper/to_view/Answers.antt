@@ -2,7 +2,7 @@ use Rattle.std.proofs.Common.{◌++◌, ap, ◌∙◌}
 use Rattle.pos_mapper.specs.Bindings.{Mapper}
 use Rattle.pos_mapper.specs.Seeking.{shown_at}
 use Rattle.pos_mapper.specs.Reading.{slots_in}
-use Rattle.pos_mapper.proofs.Shown.{all-shown}
+use Rattle.pos_mapper.proofs.SeenInRow.{all-shown}
 use Rattle.pos_mapper.proofs.mapper.Mapper.to_view.Goals as goal
 
 pub returns : goal.returns

@@ -5,7 +5,8 @@ use Rattle.view_definitions.specs.Node.{Kind, container, attribute, empty, ui, V
 use Rattle.view_tree.specs.Changes.{node_text}
 use Rattle.downcast_definitions.specs.Meant.{model_length}
 use Rattle.item_definitions.specs.Children.{parent_of, offset_of}
-use Rattle.pos_mapper.specs.Seeking.{by_around, place_in, place_among, item_in, item_among, gap_in, gap_among, around, holder, is_character, before_item, seen_among}
+use Rattle.downcast_definitions.specs.Among.{by_around, place_in, place_among, item_in, item_among, gap_in, gap_among, is_character, before_item, seen_among}
+use Rattle.pos_mapper.specs.Seeking.{around, holder}
 use Rattle.pos_mapper.proofs.Nodes.{nodes_of-list_of, list_depth}
 
 abbrev Found : Type 0

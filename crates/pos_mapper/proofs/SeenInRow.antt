@@ -25,14 +25,15 @@ use Rattle.pos_mapper.specs.Bindings.{CaretPlace, Mapper, numbers_of}
 use Rattle.pos_mapper.specs.Mapped.{behind_slot, slot_of, IsBound, AreBound, IsMapped, Shows}
 use Rattle.pos_mapper.specs.Reading.{Slots, slots_in}
 use Rattle.pos_mapper.specs.Seeking as seeking
-use Rattle.pos_mapper.specs.Seeking.{below_index, is_here, caret_among, seen_among, seen_at, place_among, inside, slot_at, in_content, in_item, shown_at}
+use Rattle.downcast_definitions.specs.Among.{seen_among, place_among}
+use Rattle.pos_mapper.specs.Seeking.{below_index, is_here, caret_among, seen_at, inside, slot_at, in_content, in_item, shown_at}
 use Rattle.pos_mapper.proofs.Documents.{bound-slot}
 use Rattle.pos_mapper.proofs.Unique.{node-found}
 use Rattle.pos_mapper.proofs.Shifted.{shift, NotEmpty, seen-shifted, place-shifted, shift-front, shift-none, boundary-some, node-some}
-use Rattle.pos_mapper.proofs.Blind.{row-seen, row-place, row-content, shown-uncounted}
+use Rattle.pos_mapper.proofs.PlainNodes.{row-seen, row-place, row-content, shown-uncounted}
 use Rattle.pos_mapper.proofs.Inside.{inside-shape, children-are-inner, slot-of-node, way-there, way-into}
-use Rattle.pos_mapper.proofs.Seen.{boundary-shown}
-use Rattle.pos_mapper.proofs.RowItems.{item-element}
+use Rattle.downcast_definitions.proofs.Found.{boundary-shown}
+use Rattle.downcast_definitions.proofs.RowItems.{item-element}
 use Rattle.pos_mapper.proofs.Carets.{CaretBelow, caret-inside, here-is, here-some, caret-fits}
 
 front-some : (front back : List ℕ) → NotEmpty front → NotEmpty (front ++ back)

@@ -13,7 +13,8 @@ use Rattle.item_definitions.specs.Children.{parent_of, offset_of}
 use Rattle.pos_mapper.specs.Bindings.{Slot}
 use Rattle.view_definitions.specs.Node.{uncounted_node, uncounted_nodes, uncounted}
 use Rattle.pos_mapper.specs.Reading.{Slots}
-use Rattle.pos_mapper.specs.Seeking.{by_around, place_in, place_among, item_in, item_among, gap_in, gap_among, is_character, before_item, seen_among, below_index, is_here, caret_among, seen_at, inside, slot_at, children_at, in_content, in_item, shown_at}
+use Rattle.downcast_definitions.specs.Among.{by_around, place_in, place_among, item_in, item_among, gap_in, gap_among, is_character, before_item, seen_among}
+use Rattle.pos_mapper.specs.Seeking.{below_index, is_here, caret_among, seen_at, inside, slot_at, children_at, in_content, in_item, shown_at}
 use Rattle.pos_mapper.proofs.Uncounted.{node-length, list_of-uncounted, length-uncounted, get-uncounted, content-uncounted}
 
 mutual

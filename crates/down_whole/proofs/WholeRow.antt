@@ -28,7 +28,7 @@ use Rattle.pos_mapper.specs.Bindings.{CaretPlace}
 use Rattle.down_whole.specs.Between.{between, caret_at}
 use Rattle.down_whole.specs.Found.{is_in_content, found_here}
 use Rattle.down_whole.specs.Written.{Written, nothing_written, with_content, with_row}
-use Rattle.down_whole.proofs.Around.{caret_in, pieces-around, shown-around}
+use Rattle.down_whole.proofs.CaretInRow.{caret_in, pieces-around, shown-around}
 use Rattle.down_whole.proofs.Found.{row-size, caret-found}
 use Rattle.down_whole.proofs.Rows.{with_row-append}
 
