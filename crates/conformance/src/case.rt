@@ -2,7 +2,7 @@
 use serde::Deserialize;
 
 /// A worked script, or another run of the program.
-#[derive(Debug, Drop, Deserialize)]
+#[derive(Drop, Deserialize)]
 #[serde(deny_unknown_fields)]
 pub struct Case {
     /// The rule that the case shows, in words.
@@ -32,7 +32,7 @@ pub struct Case {
 }
 
 /// A file whose contents are put together from pieces.
-#[derive(Debug, Drop, Deserialize)]
+#[derive(Drop, Deserialize)]
 #[serde(deny_unknown_fields)]
 pub struct HeldFile {
     pub name: String,
@@ -40,7 +40,7 @@ pub struct HeldFile {
 }
 
 /// A text or a byte, or both, so many times.
-#[derive(Debug, Drop, Deserialize)]
+#[derive(Drop, Deserialize)]
 #[serde(deny_unknown_fields)]
 pub struct Piece {
     pub text: Option<String>,

@@ -10,7 +10,7 @@ pub const MOST_BYTES: u64 = 16_777_216;
 pub type Held = (String, Vec<u8>);
 
 /// Why a case has no files, or none is run.
-#[derive(Debug, Drop)]
+#[derive(Drop)]
 pub enum CaseFault {
     /// What the suite says of the case.
     Told(String),

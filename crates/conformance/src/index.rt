@@ -1,7 +1,7 @@
 //! The index of the suite: the name of a case on each line, or a case with the report that is wanted of it.
 
 /// A line of the index.
-#[derive(Clone, Copy, Debug)]
+#[derive(Clone, Copy)]
 pub struct Entry<'a> {
     /// The name of the case.
     pub name: &'a str,

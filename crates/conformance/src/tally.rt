@@ -2,7 +2,7 @@
 use std::alloc::{AllocError, Global};
 
 /// The lines on cases that differ, and the numbers of cases.
-#[derive(Debug, Drop)]
+#[derive(Drop)]
 pub struct Tally {
     lines: String,
     cases: u64,
