@@ -255,22 +255,22 @@ changes-applied key new (spot ∷ spots) state fit far =
     (λ _. changes-applied key new spots (changed (change_at key new spot) state (made.whole, state.cells)) (all-still key new state.document.items state.cells spot fit.0 made spots far.0 fit.1) far.1)
 
 -- the runs of items that begin at an offset
-record IsRunOf (key : List ℕ) (offset : ℕ) (items : List Item) (run : Run) : Type 0 where
-  first : offset ≤ run.from
-  low : run.from ≤ run.to
-  last : run.to ≤ offset + length items
-  same : HaveOne key run.old (take (run.to - run.from) (drop (run.from - offset) items))
+pub record IsRunOf (key : List ℕ) (offset : ℕ) (items : List Item) (run : Run) : Type 0 where
+  pub first : offset ≤ run.from
+  pub low : run.from ≤ run.to
+  pub last : run.to ≤ offset + length items
+  pub same : HaveOne key run.old (take (run.to - run.from) (drop (run.from - offset) items))
 
-abbrev AreRunsOf : List ℕ → ℕ → List Item → List Run → Type 0
+abbrev pub AreRunsOf : List ℕ → ℕ → List Item → List Run → Type 0
 AreRunsOf key offset items [] = Unit {0}
 AreRunsOf key offset items (run ∷ runs) = IsRunOf key offset items run × AreRunsOf key offset items runs
 
 -- all begin behind an offset, or there
-abbrev AreBehind : ℕ → List Run → Type 0
+abbrev pub AreBehind : ℕ → List Run → Type 0
 AreBehind offset [] = Unit {0}
 AreBehind offset (run ∷ runs) = (offset ≤ run.from) × AreBehind offset runs
 
-abbrev AreApart : List Run → Type 0
+abbrev pub AreApart : List Run → Type 0
 AreApart [] = Unit {0}
 AreApart (run ∷ runs) = AreBehind run.to runs × AreApart runs
 
@@ -290,7 +290,7 @@ later-runs : (key : List ℕ) (offset : ℕ) (item : Item) (items : List Item) (
 later-runs key offset item items [] h = tt
 later-runs key offset item items (run ∷ runs) h = (later-run key offset item items run h.0, later-runs key offset item items runs h.1)
 
-all-behind : (key : List ℕ) (offset : ℕ) (items : List Item) (runs : List Run) → AreRunsOf key offset items runs → AreBehind offset runs
+pub all-behind : (key : List ℕ) (offset : ℕ) (items : List Item) (runs : List Run) → AreRunsOf key offset items runs → AreBehind offset runs
 all-behind key offset items [] h = tt
 all-behind key offset items (run ∷ runs) h = (h.0.first, all-behind key offset items runs h.1)
 
@@ -346,7 +346,7 @@ joined-runs key offset item items (run ∷ runs) h apart = go (run.from == offse
     go false e = ((one-run key offset item items, later-runs key offset item items (run ∷ runs) h), (all-behind key (offset + 1) items (run ∷ runs) h, apart))
 
 -- each run has one value, and ends before the next begins, or there
-runs-found : (key : List ℕ) (new : Option AttributeValue) (offset : ℕ) (items : List Item) → AreRunsOf key offset items (runs_of key new offset items) × AreApart (runs_of key new offset items)
+pub runs-found : (key : List ℕ) (new : Option AttributeValue) (offset : ℕ) (items : List Item) → AreRunsOf key offset items (runs_of key new offset items) × AreApart (runs_of key new offset items)
 runs-found key new offset [] = (tt, tt)
 runs-found key new offset (item ∷ items) = go (same_value (value_of key (attributes_of item)) new) (runs-found key new (offset + 1) items)
   where

@@ -8,3 +8,5 @@ pub mod Moved
 pub mod Removed
 pub mod Attributed
 pub mod Planning
+pub mod Drawn
+pub mod Longest

@@ -10,8 +10,9 @@ use Rattle.edit_definitions.specs.declared.edit.Edit.{Edit}
 use Rattle.edit_definitions.specs.declared.edit.Edit.TheVariants.{Select, SelectionAttribute}
 use Rattle.edit_definitions.specs.Planned.{◌>>=◌, operations_of}
 
--- The fault of an edit one of whose operations is refused: its premises hold, so that the limits on the tree alone can refuse one. A count or
--- a depth that is larger than the type of its field is the greatest number of that type.
+-- The fault of an edit one of whose operations is refused: its premises hold, so that the limits on the tree alone can refuse one, and on a
+-- sound document `NoMemory` isn't met (`planned_operations_apply`). A count or a depth that is larger than the type of its field is the
+-- greatest number of that type.
 abbrev pub limit_fault : ℕ → Fault → EditFault
 limit_fault edit (too_large count) = TooLarge edit (min count (2 ^ 64 - 1))
 limit_fault edit (too_deep depth) = TooDeep edit (min depth (2 ^ 32 - 1))

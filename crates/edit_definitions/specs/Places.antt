@@ -19,10 +19,11 @@ is_range items start end = is_there items start && is_there items end && not_aft
 abbrev pub are_in_one : List ℕ → List ℕ → Bool
 are_in_one start end = pointwise nat_eq (parent_of start) (parent_of end)
 
--- an element stands at a path; the empty path is the root's, where none stands
+-- the items in the element at a path: None where no element stands there, and for the empty path, which is the root's
 abbrev pub element_at : List Item → List ℕ → Option (List Item)
 element_at items path = option_and_then inner (item_at path items)
 
+-- an element stands at a path
 abbrev pub is_element : List Item → List ℕ → Bool
 is_element items path = is_some (element_at items path)
 

@@ -1,12 +1,19 @@
 //! What holds of every document and edit.
-ghost use Rattle.std.specs.Prelude.{◌≡◌, ℕ, List, Bool, Ok};
-ghost use Rattle.document_definitions.specs.Document.{State, all_applied};
+ghost use Rattle.std.specs.Prelude.{◌≡◌, ◌≢◌, ℕ, ◌+◌, List, map, length, slice_get, Bool, if◌then◌else◌, Option, Some, None, Ok, Err};
+ghost use Rattle.document_definitions.specs.Document.{State, ids_of, all_applied};
+ghost use Rattle.std.specs.List.{range_with_len};
+ghost use Rattle.ck_base.specs.declared.faults.EditFault.TheVariants.{NoMemory};
+ghost use Rattle.ck_base.specs.declared.value.Value.{Value as AttributeValue};
+ghost use Rattle.ck_base.specs.Entries.{value_of};
+ghost use Rattle.operation_definitions.specs.After.{same_value};
+ghost use Rattle.item_definitions.specs.Item.{Item, attributes_of};
+ghost use Rattle.edit_definitions.specs.Runs.{runs_of, value_told, AreLongest, with_ids, item_without_ids};
 ghost use Rattle.document_definitions.specs.Sound.{IsSound};
 ghost use Rattle.operation_definitions.specs.Operation.{Operation};
 ghost use Rattle.edit_definitions.specs.declared.edit.Edit.{Edit};
 ghost use Rattle.edit_definitions.specs.Planned.{operations_of};
 ghost use Rattle.edit_definitions.specs.Applied.{AreApplied};
-ghost use Rattle.edit_definitions.specs.Performed.{all_performed, apart, document_made, edits_made};
+ghost use Rattle.edit_definitions.specs.Performed.{performed, all_performed, apart, document_made, edits_made};
 
 /// What edits make of a document, and which fault they give, doesn't hang on what is in the cells beside it.
 pub fn edits_read_no_cells()
@@ -17,8 +24,25 @@ pub fn edits_read_no_cells()
 {}
 
 /// What an edit plans on a sound document can be made: each of its operations in order, or the first that can't would make a tree that is
-/// over a limit.
+/// over a limit. So an edit of a sound document is made, or has a fault of its own: never `NoMemory`, which stands for a refusal that no
+/// edit meets.
 pub fn planned_operations_apply()
-    ensures { (registered : List ℕ → Bool) (number : ℕ) (edit : Edit) (state : State) (operations : List Operation)
+    ensures apply { (registered : List ℕ → Bool) (number : ℕ) (edit : Edit) (state : State) (operations : List Operation)
         → IsSound state → operations_of registered number edit state ≡ Ok operations → AreApplied (all_applied operations state) }
+    ensures told { (registered : List ℕ → Bool) (number : ℕ) (edit : Edit) (state : State) → IsSound state → performed registered number edit state ≢ Err NoMemory }
+{}
+
+/// Items with new ids have the next ids in document order, and are what they were in all else.
+pub fn new_ids_are_drawn_in_order()
+    ensures drawn { (next : ℕ) (items : List Item) → ids_of (with_ids next items) ≡ range_with_len next (length (ids_of items)) }
+    ensures as_before { (next : ℕ) (items : List Item) → map item_without_ids (with_ids next items) ≡ map item_without_ids items }
+{}
+
+/// The runs on which an attribute changes are in order and apart, and each is as long as it can be. An item that hasn't the new value is in a
+/// run, which tells its value; one that has it is in none.
+pub fn runs_are_the_longest()
+    ensures longest { (key : List ℕ) (new : Option AttributeValue) (offset : ℕ) (items : List Item) → AreLongest (runs_of key new offset items) }
+    ensures exact { (key : List ℕ) (new : Option AttributeValue) (offset : ℕ) (items : List Item) (index : ℕ) (item : Item) → slice_get items index ≡ Some item
+        → value_told (offset + index) (runs_of key new offset items)
+        ≡ (if same_value (value_of key (attributes_of item)) new then None else Some (value_of key (attributes_of item))) }
 {}
