@@ -14,7 +14,7 @@ use Rattle.schema_definitions.specs.Allowed.{Rules, check_child, check_attribute
 use Rattle.breach_definitions.specs.declared.spot.Spot.{Spot}
 use Rattle.breach_definitions.specs.Breach.{Placed, placed_items, item_name, last_name, broken_rule, breach_of, first_some, breach}
 use Rattle.breach_definitions.specs.Spots.{is_listed, breach_at}
-use Rattle.breach_definitions.specs.Obeys.{IsAllowed, Breaks, may_not_stand, may_not_have, ancestors_at, Obeys, IsFirstBreach, IsPlaced, OthersObey}
+use Rattle.breach_definitions.specs.Obeys.{IsAllowed, Breaks, may_not_stand, may_not_have, ancestors_at, Obeys, IsFirstBreach, OthersObey}
 use Rattle.breach_definitions.proofs.Placed.{only, first, Earlier, pairs-head, pairs-behind, all_contained, members_are_placed, members_in_order}
 
 -- the first of some attributes whose key fails a test
@@ -178,10 +178,6 @@ module _ {A B : Type 0} (f : A → Option B) where
             there = h ∙ (let g = ap (λ o. option_or o (first_some f xs)) (sym h) ∙ e in cc);
           }
 
-  first_found : (before : List A) (x : A) (behind : List A) (b : B) → All (λ y. f y ≡ None) before → f x ≡ Some b → first_some f (before ++ x ∷ behind) ≡ Some b
-  first_found [] x behind b h e = ap (λ o. option_or o (first_some f behind)) e
-  first_found (y ∷ before) x behind b h e = ap (λ o. option_or o (first_some f (before ++ x ∷ behind))) (All-head (λ y. f y ≡ None) y before h) ∙ first_found before x behind b (All-tail (λ y. f y ≡ None) y before h) e
-
 abbrev with_path : List ℕ → Rule → Rule × List ℕ
 with_path path rule = (rule, path)
 
@@ -239,9 +235,6 @@ placed_at items path item = record { ancestors = ancestors_at path items; path =
 
 contained : (items : List Item) (path : List ℕ) (item : Item) → item_at path items ≡ Some item → Contains (placed_items items) (placed_at items path item)
 contained items path item e = (members_are_placed items (placed_at items path item)).1 (record { found = e; under = refl })
-
-allowed_there : (rules : Rules) (items : List Item) (placed : Placed) → IsPlaced items placed → IsAllowed rules placed.ancestors placed.item → IsAllowed rules (ancestors_at placed.path items) placed.item
-allowed_there rules items placed is h = subst (λ names. IsAllowed rules names placed.item) is.under h
 
 pub obeys_iff : (rules : Rules) (items : List Item) → (breach rules items ≡ None) ↔ Obeys rules items
 unfolding breach
