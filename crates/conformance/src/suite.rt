@@ -25,12 +25,10 @@ fn read_case<F: Files>(alloc: Global, name: &str, files: &mut F) -> Result<Case,
 
 /// The words of the command line of a case that has none of its own.
 fn usual_words(alloc: Global) -> Result<Vec<String>, AllocError> {
-    let words = vec![in alloc;
-        String::from_str(alloc, "ckcore")?,
-        String::from_str(alloc, "run")?,
-        String::from_str(alloc, "settings")?,
-        String::from_str(alloc, "script")?,
-    ]?;
+    let mut words = Vec::new(alloc);
+    for word in "ckcore run settings script".split(' ') {
+        words.push(String::from_str(alloc, word)?)?;
+    }
     Ok(words)
 }
 
