@@ -1,7 +1,7 @@
 -- The whole output of the program: the bytes that it writes and its status, from its words and the files that are held.
 use Rattle.std.specs.Prelude.{ℕ, List, [], ◌++◌, nat_lt, Option, Some, None, Result, Ok, Err, if◌then◌else◌, codes, length}
 use Rattle.ck_base.specs.declared.faults.Refusal.{Refusal}
-use Rattle.config_read.specs.Texts.{settings_text}
+use Rattle.settings_definitions.specs.Texts.{settings_text}
 use Rattle.document_definitions.specs.Document.{Document}
 use Rattle.machine_definitions.specs.Lines.{lines_of}
 use Rattle.machine_definitions.specs.Refusals.{refusal_text}
