@@ -2,7 +2,6 @@ pub mod PlaceTests
 pub mod Inserted
 pub mod Named
 pub mod Made
-pub mod Drawn
 pub mod Welcome
 pub mod Numbered
 pub mod Unknown

@@ -1,5 +1,5 @@
 -- What an edit makes of a document.
-use Rattle.std.proofs.Common.{◌≡◌, ◌≢◌, ℕ, ◌-◌, ◌^◌, min, Bool, true, false, List, [], Some, Result, Ok, Err, refl, sym, ap, ◌∙◌}
+use Rattle.std.proofs.Common.{◌≡◌, ◌≢◌, ℕ, ◌-◌, ◌^◌, min, Bool, true, false, List, [], Some, Result, Ok, Err, refl, sym, ap, ◌∙◌, subst}
 use Rattle.ck_base.specs.declared.faults.EditFault.{EditFault}
 use Rattle.ck_base.specs.declared.faults.EditFault.TheVariants.{BadRange, NoMemory}
 use Rattle.item_definitions.specs.Position.{between}
@@ -8,13 +8,16 @@ use Rattle.document_definitions.specs.Selection.{selected}
 use Rattle.document_definitions.specs.Document.{State, with_selection, all_applied}
 use Rattle.edit_definitions.specs.declared.edit.Edit.{Edit}
 use Rattle.edit_definitions.specs.declared.edit.Edit.TheVariants.{InsertText, InsertElement, Remove, Move, SetAttribute, RemoveAttribute, Rename, Split, Merge, Wrap, Unwrap, AddMarker, UpdateMarker, RemoveMarker, Select, SelectionAttribute, InsertItems}
+use Rattle.document_definitions.specs.Sound.{IsSound}
+use Rattle.edit_definitions.specs.Applied.{AreApplied}
+use Rattle.edit_definitions.proofs.Planning.{planned_apply}
 use Rattle.edit_definitions.specs.Places.{is_range}
 use Rattle.edit_definitions.specs.Planned.{◌>>=◌, check, operations_of}
 use Rattle.edit_definitions.specs.Performed.{as_step, selecting, performed}
 use Rattle.model_ops.specs.declared.fault.OpFault.{OpFault}
 use Rattle.model_ops.specs.declared.fault.OpFault.TheVariants as op
 use Rattle.model_ops.specs.Effects.{refusal, fault_as}
-use Rattle.model_writer.specs.Plans.{IsPlain, limit_of}
+use Rattle.model_writer.specs.Plans.{IsPlain, IsLimit, limit_of}
 
 -- an edit of the tree or the markers leaves the selection to its operations
 plain : (edit : Edit) (state : State) → IsPlain edit → selecting edit state ≡ state
@@ -84,3 +87,30 @@ pub not_selected : (registered : List ℕ → Bool) (number : ℕ) (start end : 
     → performed registered number (Select start end backward) state ≡ Err (BadRange number start end)
 not_selected registered number start end backward state gone =
     ap (λ t. (check t (BadRange number start end) >>= (λ _. Ok [])) >>= after number (Select start end backward) state) gone
+
+-- the limits on the tree alone refuse an operation that an edit plans on a sound document
+limit-only : (answer : Result State Fault) (fault : OpFault) → AreApplied answer → refusal answer ≡ Some fault → IsLimit fault
+limit-only (Ok made) fault applied e = absurd cc
+limit-only (Err no_place) fault applied e = absurd applied
+limit-only (Err not_flat) fault applied e = absurd applied
+limit-only (Err into_itself) fault applied e = absurd applied
+limit-only (Err (old_differs found)) fault applied e = absurd applied
+limit-only (Err not_neighbours) fault applied e = absurd applied
+limit-only (Err (cell_state cell)) fault applied e = absurd applied
+limit-only (Err (too_large count)) fault applied e = (let same : op.TooLarge (min count (2 ^ 64 - 1)) ≡ fault = cc in subst IsLimit same tt)
+limit-only (Err (too_deep depth)) fault applied e = (let same : op.TooDeep (min depth (2 ^ 32 - 1)) ≡ fault = cc in subst IsLimit same tt)
+
+pub limit_alone : (registered : List ℕ → Bool) (number : ℕ) (edit : Edit) (state : State) (operations : List Operation) (fault : OpFault) → IsSound state → operations_of registered number edit state ≡ Ok operations
+    → (fault ≢ op.NoMemory → refusal (all_applied operations state) ≡ Some fault) → IsLimit fault
+limit_alone registered number edit state operations fault sound planned refused = go fault refused (λ told. limit-only (all_applied operations state) fault (planned_apply registered number edit state operations sound planned) told)
+  where
+    go : (fault : OpFault) → (fault ≢ op.NoMemory → refusal (all_applied operations state) ≡ Some fault) → (refusal (all_applied operations state) ≡ Some fault → IsLimit fault) → IsLimit fault
+    go op.NoMemory refused told = tt
+    go (op.TooLarge count) refused told = tt
+    go (op.TooDeep depth) refused told = tt
+    go op.NoPlace refused told = told (refused (λ e. cc))
+    go op.NotFlat refused told = told (refused (λ e. cc))
+    go op.IntoItself refused told = told (refused (λ e. cc))
+    go (op.OldDiffers found) refused told = told (refused (λ e. cc))
+    go op.NotNeighbours refused told = told (refused (λ e. cc))
+    go (op.CellState number) refused told = told (refused (λ e. cc))

@@ -5,6 +5,7 @@ use Rattle.std.proofs.lemmas.List.Concat.{flat_map-append}
 use Rattle.item_definitions.specs.Item.{Item, Items, Attributes, character, element, none, more, items_of, count_of, depth_of}
 use Rattle.document_definitions.specs.Document.{ids_of, ids_of_item, ids_of_inner}
 use Rattle.edit_definitions.specs.Runs.{item_with_ids, inner_with_ids, with_ids}
+use Rattle.edit_definitions.proofs.Drawn.{next-item, next-inner}
 use Rattle.model_tree.specs.declared.items.Node.{Node}
 use Rattle.model_tree.specs.declared.items.Node.TheVariants.{Run, Element}
 use Rattle.model_tree.specs.Parts.{TextParts, HeadParts}
@@ -97,20 +98,6 @@ back_less half items some less =
 
 pub halves_ids : (half : ℕ) (items : List Item) → length (ids_of (take half items)) + length (ids_of (drop half items)) ≡ length (ids_of items)
 halves_ids half items = sym (ids-append (take half items) (drop half items)) ∙ ap (λ (xs : List Item). length (ids_of xs)) (take-append-drop half items)
-
--- the number behind those of items
-mutual
-  pub next-item : (next : ℕ) (item : Item) → (item_with_ids next item).1 ≡ next + length (ids_of_item item)
-  next-item next (character scalar attributes) = omega arith
-  next-item next (element id name attributes children) = (let a = next-inner (next + 1) children in omega (arith, a))
-
-  pub next-inner : (next : ℕ) (items : Items) → (inner_with_ids next items).1 ≡ next + length (ids_of_inner items)
-  next-inner next none = omega arith
-  next-inner next (more item items) =
-      let a = next-item next item in
-      let b = next-inner (item_with_ids next item).1 items in
-      let c = length-append (ids_of_item item) (ids_of_inner items) in
-      omega (arith, a, b, c)
 
 inner-numbered : (next : ℕ) (items : List Item) → (inner_with_ids next (items_of items)).0 ≡ items_of (with_ids next items)
 inner-numbered next [] = refl

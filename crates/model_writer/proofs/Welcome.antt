@@ -1,7 +1,7 @@
 -- What an edit plans on a sound document brings new ids alone, and ranges of markers that are in the tree.
 use Rattle.std.proofs.Common.{◌≡◌, ◌≢◌, ℕ, ◌+◌, ◌<◌, ◌≤◌, ◌^◌, Bool, true, false, not, nat_eq, nat_le, nat_lt, ◌&&◌, ◌||◌, ◌==◌, if◌then◌else◌, List, [], ◌∷◌, ◌++◌, map, length, reverse, Option, Some, None, ok_or, option_and_then, unwrap_or, is_none, IsSomeAnd, Result, Ok, Err, All, refl, sym, subst, arith}
 use Rattle.std.specs.Option.{option_map_or}
-use Rattle.std.specs.List.{flat_map, IsDistinct}
+use Rattle.std.specs.List.{flat_map, IsDistinct, range_with_len}
 use Rattle.std.proofs.lemmas.Bool.Decides.{nat_tests}
 use Rattle.ck_base.specs.declared.value.Value.{Value as AttributeValue}
 use Rattle.ck_base.specs.declared.faults.EditFault.{EditFault}
@@ -25,7 +25,7 @@ use Rattle.edit_definitions.specs.Planned.{◌>>=◌, check, ids_left, count_in,
 use Rattle.edit_definitions.specs.Runs.{Run, runs_of, items_of_range, attribute_runs, give_in, with_ids}
 use Rattle.model_doc.specs.Conditions.{IsWelcome, AreWelcome}
 use Rattle.model_writer.proofs.Numbered.{text-none}
-use Rattle.model_writer.proofs.Drawn.{numbers, ids-numbered, distinct-from, known-from}
+use Rattle.edit_definitions.proofs.Drawn.{ids-numbered, distinct-from, known-from}
 
 -- an operation that brings nothing
 abbrev IsQuiet : Operation → Type 0
@@ -83,14 +83,14 @@ then-quiet : (operation : Operation) (operations : List Operation) (state : Stat
 then-quiet operation operations state sound places welcome quiet = (welcome, λ made e. all-quiet operations made (still-sound operation state made sound places welcome e) quiet)
 
 -- items that come in with new ids
-insert-welcome : (at : List ℕ) (items : List Item) (count : ℕ) (state : State) → IsSound state → ids_of items ≡ numbers state.document.next_id count → state.document.next_id + count ≤ 2 ^ 63 → IsWelcome (insert at items) state
+insert-welcome : (at : List ℕ) (items : List Item) (count : ℕ) (state : State) → IsSound state → ids_of items ≡ range_with_len state.document.next_id count → state.document.next_id + count ≤ 2 ^ 63 → IsWelcome (insert at items) state
 insert-welcome at items count state sound ids left = record {
   fresh = subst (λ xs. IsDistinct nat_eq (xs ++ ids_in state.document.items state.cells)) (sym ids) (distinct-from state.document.next_id count (ids_in state.document.items state.cells) sound.drawn sound.distinct);
   known = subst (λ xs. All (λ id. (1 ≤ id) × (id < 2 ^ 63)) xs) (sym ids) (known-from state.document.next_id count sound.some left);
   ranged = tt;
 }
 
-insertion-welcome : (at : List ℕ) (items : List Item) (count : ℕ) (state : State) → IsSound state → ids_of items ≡ numbers state.document.next_id count → state.document.next_id + count ≤ 2 ^ 63 → AreWelcome (insertion at items) state
+insertion-welcome : (at : List ℕ) (items : List Item) (count : ℕ) (state : State) → IsSound state → ids_of items ≡ range_with_len state.document.next_id count → state.document.next_id + count ≤ 2 ^ 63 → AreWelcome (insertion at items) state
 insertion-welcome at [] count state sound ids left = tt
 insertion-welcome at (item ∷ items) count state sound ids left = then-quiet (insert at (item ∷ items)) [] state sound tt (insert-welcome at (item ∷ items) count state sound ids left) tt
 

@@ -32,6 +32,18 @@ IsPlain (Select start end backward) = ⊥
 IsPlain (SelectionAttribute key value) = ⊥
 IsPlain edit = Unit {0}
 
+-- The operation would exceed a limit on the tree, or memory ran out.
+abbrev pub IsLimit : OpFault → Type 0
+IsLimit (op.TooLarge count) = Unit {0}
+IsLimit (op.TooDeep depth) = Unit {0}
+IsLimit op.NoMemory = Unit {0}
+IsLimit op.NoPlace = ⊥
+IsLimit op.NotFlat = ⊥
+IsLimit op.IntoItself = ⊥
+IsLimit (op.OldDiffers found) = ⊥
+IsLimit op.NotNeighbours = ⊥
+IsLimit (op.CellState number) = ⊥
+
 -- an operation's refusal as that of an edit: the limits on the tree alone can refuse an operation of an edit whose premises hold
 abbrev pub limit_of : ℕ → OpFault → EditFault
 limit_of edit (op.TooLarge count) = TooLarge edit count

@@ -11,7 +11,7 @@ ghost use Rattle.edit_definitions.specs.Planned.{operations_of};
 ghost use Rattle.edit_definitions.specs.Performed.{performed};
 ghost use Rattle.model_doc.specs.Held.{in_state};
 ghost use Rattle.model_doc.specs.Records.{records_of};
-ghost use Rattle.model_writer.specs.Plans.{IsPlain, limit_of};
+ghost use Rattle.model_writer.specs.Plans.{IsPlain, IsLimit, limit_of};
 
 use crate::places::{bad_range, is_range};
 use crate::planning::plan;
@@ -25,25 +25,26 @@ use model_ops::fault::OpFault;
 use model_pos::{Position, Range};
 use schema_rules::schema::Schema;
 
-/// The refusal of an operation as the fault of its edit.
+/// The refusal of an operation as the fault of its edit: the limits on the tree alone can refuse an operation that an edit plans.
 fn limit_of(edit: u64, fault: OpFault) -> EditFault
+    requires { IsLimit fault }
     ensures { result ≡ limit_of edit fault }
 {
     match fault {
         OpFault::TooLarge(count) => EditFault::TooLarge { edit, count },
         OpFault::TooDeep(depth) => EditFault::TooDeep { edit, depth },
+        OpFault::NoMemory => EditFault::NoMemory,
         OpFault::NoPlace
         | OpFault::NotFlat
         | OpFault::IntoItself
         | OpFault::OldDiffers(_)
         | OpFault::NotNeighbours
-        | OpFault::CellState(_)
-        | OpFault::NoMemory => EditFault::NoMemory,
+        | OpFault::CellState(_) => unreachable!(),
     }
 }
 
 /// Makes an edit of the tree or the markers.
-#[tactic(auto, using(crate::proofs::Made::plain_made, crate::proofs::Made::limit_refused, crate::proofs::Made::plan_refused))]
+#[tactic(auto, using(crate::proofs::Made::plain_made, crate::proofs::Made::limit_refused, crate::proofs::Made::plan_refused, crate::proofs::Made::limit_alone))]
 fn make(
     document: &mut Document,
     schema: &Schema,
@@ -63,6 +64,7 @@ fn make(
     ensures selection { batch.new.selection ≡ batch.old.selection }
     ensures kept { document.new.kept ≡ document.old.kept }
 {
+    let _sound = document.tree();
     let operations = plan(document, schema, edit, number)?;
     match document.apply_all(operations, batch) {
         Ok(()) => Ok(()),
