@@ -24,10 +24,19 @@ fn read_case<F: Files>(alloc: Global, name: &str, files: &mut F) -> Result<Case,
 }
 
 /// The words of the command line of a case that has none of its own.
+const USUAL_WORDS: [&str; 4] = ["ckcore", "run", "settings", "script"];
+
+/// Puts a word behind others.
+fn push_word(words: &mut Vec<String>, word: String) -> Result<(), AllocError> {
+    words.push(word)?;
+    Ok(())
+}
+
+/// The words of the command line of a case that has none of its own.
 fn usual_words(alloc: Global) -> Result<Vec<String>, AllocError> {
     let mut words = Vec::new(alloc);
-    for word in "ckcore run settings script".split(' ') {
-        words.push(String::from_str(alloc, word)?)?;
+    for word in &USUAL_WORDS {
+        push_word(&mut words, String::from_str(alloc, word)?)?;
     }
     Ok(words)
 }
