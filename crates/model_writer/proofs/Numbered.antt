@@ -2,10 +2,10 @@
 use Rattle.std.proofs.Common.{◌≡◌, ◌≢◌, ℕ, zero, suc, ◌+◌, ◌-◌, ◌<◌, ◌≤◌, ◌^◌, min, List, [], ◌∷◌, ◌++◌, map, length, take, drop, get_or, refl, sym, ap, ◌∙◌, subst, arith}
 use Rattle.std.proofs.lemmas.List.{length-append, append-nil, take-append-drop, take_more, length-drop, length-take}
 use Rattle.std.proofs.lemmas.List.Concat.{flat_map-append}
-use Rattle.item_definitions.specs.Item.{Item, Items, Attributes, character, element, none, more, items_of, count_of, depth_of}
+use Rattle.item_definitions.specs.Item.{Item, Attributes, character, element, more, items_of, count_of, depth_of}
 use Rattle.document_definitions.specs.Document.{ids_of, ids_of_item, ids_of_inner}
 use Rattle.edit_definitions.specs.Runs.{item_with_ids, inner_with_ids, with_ids}
-use Rattle.edit_definitions.proofs.Drawn.{next-item, next-inner}
+use Rattle.edit_definitions.proofs.Drawn.{next-item}
 use Rattle.model_tree.specs.declared.items.Node.{Node}
 use Rattle.model_tree.specs.declared.items.Node.TheVariants.{Run, Element}
 use Rattle.model_tree.specs.Parts.{TextParts, HeadParts}
