@@ -25,7 +25,7 @@ use Rattle.operation_definitions.proofs.Values.{same_value-true, same_value-own}
 use Rattle.document_definitions.specs.Document.{State, changed, all_applied}
 use Rattle.model_tree.specs.OneValue.{HaveOne}
 use Rattle.model_tree.proofs.OneValue.{passed_first}
-use Rattle.model_tree.proofs.Limited.{three}
+use Rattle.operation_definitions.proofs.Levels.{three}
 use Rattle.item_definitions.specs.Children.{child_count}
 use Rattle.edit_definitions.specs.Runs.{Run, joined, runs_of, items_of_range, attribute_runs, give_in}
 use Rattle.edit_definitions.specs.Applied.{AreApplied}
