@@ -4,7 +4,7 @@
 
 PROGRAM and the words behind it are a command, for instance a built `ckcore`, that takes the words of a case behind them. Each case is run in a
 folder of its own that has the files which it holds. The cases that differ are printed, and in the end how many did. Left out are cases that no
-other program can be given: those that want failing calls or short writes, and those of the suite itself. Python 3.11 or later.
+other program can be given, which are those that want failing calls or short writes, and those whose file is broken. Python 3.11 or later.
 """
 
 import os
@@ -15,18 +15,20 @@ import tomllib
 
 HERE = os.path.dirname(os.path.abspath(__file__))
 DATA = os.path.join(HERE, "..", "crates", "conformance", "data")
-FIELDS = {"shows", "output", "settings", "script", "words", "status", "takes", "failing_fetches", "failing_writes", "files", "suite"}
-LEFT_OUT = ("takes", "failing_fetches", "failing_writes", "suite")
+FIELDS = {"shows", "output", "settings", "script", "words", "status", "takes", "failing_fetches", "failing_writes", "files"}
+LEFT_OUT = ("takes", "failing_fetches", "failing_writes")
 
 
-def names_of(data):
-    """The names of the index, in order."""
+def entries_of(data):
+    """The index in order: each case's name, and what the suite is to say of it, or None where it is to agree."""
     with open(os.path.join(data, "index"), encoding="utf-8") as file:
         lines = [line.strip() for line in file]
-    names = [line for line in lines if line and not line.startswith("#")]
-    if len(set(names)) != len(names):
-        sys.exit("the index names a case twice")
-    return names
+    for line in lines:
+        if line.startswith("! "):
+            name, _, wanted = line[2:].partition(": ")
+            yield name, wanted
+        elif line and not line.startswith("#"):
+            yield line, None
 
 
 def read_case(data, name):
@@ -100,8 +102,11 @@ def main(words):
         sys.exit(__doc__.strip())
     command = [os.path.abspath(words[0]) if os.path.exists(words[0]) else words[0]] + words[1:]
     ran = differ = left_out = 0
-    for name in names_of(data):
+    for name, wanted in entries_of(data):
         if not name.startswith(only):
+            continue
+        if wanted is not None and not wanted.startswith(("line ", "status ")):
+            left_out += 1
             continue
         case = read_case(data, name)
         if any(field in case for field in LEFT_OUT):
@@ -109,9 +114,9 @@ def main(words):
             continue
         ran += 1
         found = difference(case, *run(command, case, held_files(data, case)))
-        if found is not None:
+        if found != wanted:
             differ += 1
-            print("%s: %s" % (name, found))
+            print("%s: %s" % (name, found or "agrees, but is to differ: " + wanted))
     print("cases %d, differ %d, left out %d" % (ran, differ, left_out))
     return 1 if differ else 0
 
