@@ -129,7 +129,8 @@ impl Body {
         ensures body { self.new ≡ made }
         ensures record { result ≡ done_on self.old.state (operation_of operation) made.state made.mark }
     {
-        let (cell, number) = (made.cells.len(), made.mark);
+        let cell = made.cells.len();
+        let number = made.mark;
         let Body {
             markers,
             selection,

@@ -47,21 +47,25 @@ fn shift_of_move(from: &Place, count: u32, to: &Place) -> Shift
     ensures shift { shifts.shift_of result ≡ shift_of_move (place_of from.now) count (place_of to.now) }
     ensures places { HasPlaces (move (place_of from.now) count (place_of to.now)) }
 {
-    match (from, to) {
-        (Place::Tree(from), Place::Tree(to)) => Shift::Move {
-            from: from.copy(),
-            count,
-            to: to.copy(),
+    match from {
+        Place::Tree(from) => match to {
+            Place::Tree(to) => Shift::Move {
+                from: from.copy(),
+                count,
+                to: to.copy(),
+            },
+            Place::Cell(_) => Shift::Remove {
+                at: from.copy(),
+                count,
+            },
         },
-        (Place::Tree(from), Place::Cell(_)) => Shift::Remove {
-            at: from.copy(),
-            count,
+        Place::Cell(_) => match to {
+            Place::Tree(to) => Shift::Insert {
+                at: to.copy(),
+                count,
+            },
+            Place::Cell(_) => Shift::Stay,
         },
-        (Place::Cell(_), Place::Tree(to)) => Shift::Insert {
-            at: to.copy(),
-            count,
-        },
-        (Place::Cell(_), Place::Cell(_)) => Shift::Stay,
     }
 }
 

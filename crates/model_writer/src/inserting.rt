@@ -32,6 +32,13 @@ pub(crate) fn alloc_of(document: &Document) -> Global {
     document.tree().items().allocator()
 }
 
+/// The fault of memory that can't be had, once what found no room is let go.
+pub(crate) fn out_of_memory<T: Drop>(_unkept: T) -> EditFault
+    ensures { result ≡ OutOfMemory }
+{
+    EditFault::NoMemory
+}
+
 /// One operation alone.
 pub(crate) fn one(alloc: Global, operation: Operation) -> Result<Vec<Operation>, EditFault>
     ensures { Plans (Ok (operation_of operation ∷ [])) result }
@@ -39,7 +46,7 @@ pub(crate) fn one(alloc: Global, operation: Operation) -> Result<Vec<Operation>,
     let mut operations = Vec::new(alloc);
     match operations.push(operation) {
         Ok(()) => Ok(operations),
-        Err(_) => Err(EditFault::NoMemory),
+        Err(unkept) => Err(out_of_memory(unkept)),
     }
 }
 
@@ -50,7 +57,7 @@ pub(crate) fn push(operations: &mut Vec<Operation>, operation: Operation) -> Res
 {
     match operations.push(operation) {
         Ok(()) => Ok(()),
-        Err(_) => Err(EditFault::NoMemory),
+        Err(unkept) => Err(out_of_memory(unkept)),
     }
 }
 

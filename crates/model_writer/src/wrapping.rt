@@ -11,7 +11,7 @@ ghost use Rattle.edit_definitions.specs.Planned.{operations_of};
 ghost use Rattle.model_writer.specs.Plans.{Plans};
 
 use crate::elements::{at_offset, count_at, place_in};
-use crate::inserting::{alloc_of, empty_element, has_ids, one};
+use crate::inserting::{alloc_of, empty_element, has_ids, one, out_of_memory, push};
 use crate::moving::{count_in, is_same};
 use crate::places::{
     are_in_one, bad_range, bad_target, is_element, is_known, is_range, not_registered,
@@ -31,11 +31,11 @@ use std::alloc::Global;
 fn two(alloc: Global, first: Operation, second: Operation) -> Result<Vec<Operation>, EditFault>
     ensures { Plans (Ok (operation_of first ∷ operation_of second ∷ [])) result }
 {
-    let Ok(mut operations) = Vec::with_capacity(alloc, 2) else {
-        return Err(EditFault::NoMemory);
+    let mut operations = match one(alloc, first) {
+        Ok(operations) => operations,
+        Err(_) => return Err(out_of_memory(second)),
     };
-    operations.push_reserved(first);
-    operations.push_reserved(second);
+    push(&mut operations, second)?;
     Ok(operations)
 }
 
