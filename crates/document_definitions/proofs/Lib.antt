@@ -1,9 +1,9 @@
-mod Inside
-mod Parted
+pub mod Inside
+pub mod Parted
 mod Kept
 mod Halves
 mod Runs
-mod Same
+pub mod Same
 pub mod Ranges
 pub mod Limits
 mod Ids

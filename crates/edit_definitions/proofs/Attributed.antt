@@ -379,7 +379,7 @@ window s k m n xs less =
     ∙ ap (take n) (drop-more s m xs)
 
 -- the runs of a part as flat ranges
-abbrev spot_of : List ℕ → Run → Spot
+abbrev pub spot_of : List ℕ → Run → Spot
 spot_of parent run = record { range = between (parent ++ run.from ∷ []) (parent ++ run.to ∷ []); old = run.old }
 
 runs-changed : (parent key : List ℕ) (new : Option AttributeValue) (runs : List Run) → attribute_runs parent key new runs ≡ map (change_at key new) (map (spot_of parent) runs)

@@ -10,3 +10,6 @@ pub mod Attributed
 pub mod Planning
 pub mod Drawn
 pub mod Longest
+pub mod Given
+pub mod Reaching
+pub mod Rest

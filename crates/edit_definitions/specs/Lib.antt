@@ -4,3 +4,4 @@ pub mod Planned
 pub mod Applied
 pub mod Performed
 pub mod Sample
+pub mod Given

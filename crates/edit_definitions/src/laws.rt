@@ -7,12 +7,15 @@ ghost use Rattle.ck_base.specs.declared.value.Value.{Value as AttributeValue};
 ghost use Rattle.ck_base.specs.Entries.{value_of};
 ghost use Rattle.operation_definitions.specs.After.{same_value};
 ghost use Rattle.item_definitions.specs.Item.{Item, attributes_of};
+ghost use Rattle.item_definitions.specs.Children.{item_at};
 ghost use Rattle.edit_definitions.specs.Runs.{runs_of, value_told, AreLongest, with_ids, item_without_ids};
-ghost use Rattle.document_definitions.specs.Sound.{IsSound};
+ghost use Rattle.document_definitions.specs.Sound.{IsSound, IsKeyed};
 ghost use Rattle.operation_definitions.specs.Operation.{Operation};
 ghost use Rattle.edit_definitions.specs.declared.edit.Edit.{Edit};
 ghost use Rattle.edit_definitions.specs.Planned.{operations_of};
 ghost use Rattle.edit_definitions.specs.Applied.{AreApplied};
+ghost use Rattle.edit_definitions.specs.declared.edit.Target.{Target};
+ghost use Rattle.edit_definitions.specs.Given.{attribute_edit, is_reached, HasGiven, without_attributes};
 ghost use Rattle.edit_definitions.specs.Performed.{performed, all_performed, apart, document_made, edits_made};
 
 /// What edits make of a document, and which fault they give, doesn't hang on what is in the cells beside it.
@@ -45,4 +48,15 @@ pub fn runs_are_the_longest()
     ensures exact { (key : List ℕ) (new : Option AttributeValue) (offset : ℕ) (items : List Item) (index : ℕ) (item : Item) → slice_get items index ≡ Some item
         → value_told (offset + index) (runs_of key new offset items)
         ≡ (if same_value (value_of key (attributes_of item)) new then None else Some (value_of key (attributes_of item))) }
+{}
+
+/// After an edit of an attribute each item that it reaches has the new value of the key, or lacks the key where that is taken away, and has
+/// the values of its other keys from before; an item that it doesn't reach has the attributes from before. All else is as it was: each
+/// character, id, name and place of an item, the markers, the selection with its overrides, the next id and the cells.
+pub fn attribute_edits_give_the_value()
+    ensures value { (registered : List ℕ → Bool) (number : ℕ) (target : Target) (key : List ℕ) (new : Option AttributeValue) (state made : State) (path : List ℕ) (item : Item)
+        → IsKeyed state → performed registered number (attribute_edit target key new) state ≡ Ok made → item_at path state.document.items ≡ Some item
+        → HasGiven (is_reached state.document.items target path) key new (attributes_of item) made.document.items path }
+    ensures rest { (registered : List ℕ → Bool) (number : ℕ) (target : Target) (key : List ℕ) (new : Option AttributeValue) (state made : State)
+        → IsSound state → performed registered number (attribute_edit target key new) state ≡ Ok made → without_attributes made ≡ without_attributes state }
 {}
