@@ -39,7 +39,7 @@ module _ {V : Type 0} where
     others = λ other d. find-put name_cmp nat_list_cmp_total other key value entries ∙ ap (λ b. cond b (Some value) (value_of other entries)) (apart other key d);
   }
 
-  gone : (key : List ℕ) (entries : List (List ℕ × V)) → IsOrdered entries → value_of key (without key entries) ≡ None
+  pub gone : (key : List ℕ) (entries : List (List ℕ × V)) → IsOrdered entries → value_of key (without key entries) ≡ None
   gone key [] h = refl
   gone key (e ∷ rest) h =
       elim (name_cmp key e.0) as (λ o. name_cmp key e.0 ≡ o → value_of key (match_ordering o (e ∷ rest) rest (e ∷ without key rest)) ≡ None) [

@@ -14,7 +14,7 @@ use crate::registered::registered_items;
 use ck_base::name::Name;
 use converter_read::plan::ConverterPlan;
 use converter_read::plan_names::{
-    first_unknown_custom, first_unknown_item, first_without_converter, has, is_reserved,
+    first_unknown_custom, first_unknown_item, first_without_converter, has, is_generic,
 };
 use schema_definitions::fault::SchemaFault;
 use schema_rules::compile::compile;
@@ -27,7 +27,7 @@ fn unknown_start<'a>(items: &[Name], start: &'a Option<Name>) -> Option<&'a Name
     ensures { option_copied result ≡ unknown_start items.now start.now }
 {
     match start {
-        Some(name) if is_reserved(name) || !has(items, name) => Some(name),
+        Some(name) if is_generic(name) || !has(items, name) => Some(name),
         _ => None,
     }
 }

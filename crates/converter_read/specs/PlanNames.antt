@@ -1,9 +1,10 @@
 -- The names in a list of converters that have to be items, the names of products' converters, and the items that need a converter.
-use Rattle.std.specs.Prelude.{ℕ, List, [], ◌∷◌, ◌++◌, Bool, true, false, not, ◌&&◌, ◌||◌, ◌==◌, is_none, Option, Some, None, if◌then◌else◌, find}
+use Rattle.std.specs.Prelude.{ℕ, List, [], ◌∷◌, ◌++◌, Bool, true, false, not, ◌&&◌, ◌||◌, is_none, Option, Some, None, if◌then◌else◌, find}
 use Rattle.std.specs.List.{list_any}
 use Rattle.std.specs.Option.{option_or}
 use Rattle.std.specs.Str.{bytes_eq}
 use Rattle.ck_base.specs.declared.value.Value.{Value as AttributeValue}
+use Rattle.ck_base.specs.Name.{is_generic}
 use Rattle.schema_definitions.specs.Names.{has}
 use Rattle.converter_definitions.specs.declared.stock.StockConverter.TheVariants.{ElementToElement, ElementToStructure, AttributeToElement, AttributeToAttribute, MarkerToHighlight, MarkerToElement}
 use Rattle.converter_read.specs.declared.plan.ConverterPlan.{ConverterPlan}
@@ -78,11 +79,6 @@ is_unconditional (Boxed custom index) name = false
 abbrev pub converts : List ConverterPlan → List ℕ → Bool
 converts plans name = list_any (λ plan. is_unconditional plan.entry name) plans
 
--- a name that begins with `$`
-abbrev pub is_reserved : List ℕ → Bool
-is_reserved [] = false
-is_reserved (byte ∷ rest) = byte == 36
-
--- the first of these items that isn't reserved and that has no such converter
+-- the first of these items that isn't generic and that has no such converter
 abbrev pub first_without_converter : List ConverterPlan → List (List ℕ) → Option (List ℕ)
-first_without_converter plans registered = find (λ name. not (is_reserved name || converts plans name)) registered
+first_without_converter plans registered = find (λ name. not (is_generic name || converts plans name)) registered

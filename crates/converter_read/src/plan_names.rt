@@ -1,7 +1,8 @@
 //! The names in a list of converters: those that have to be items, those of products' converters, and the items that need a converter.
 ghost use Rattle.std.specs.Prelude.{◌≡◌, option_copied};
 ghost use Rattle.schema_definitions.specs.Names.{has};
-ghost use Rattle.converter_read.specs.PlanNames.{unless_known, unless_all_known, unknown_of_entry, first_unknown_item, is_custom, uses, unknown_custom, first_unknown_custom, is_bare, is_unconditional, converts, is_reserved, first_without_converter};
+ghost use Rattle.converter_read.specs.PlanNames.{unless_known, unless_all_known, unknown_of_entry, first_unknown_item, is_custom, uses, unknown_custom, first_unknown_custom, is_bare, is_unconditional, converts, first_without_converter};
+ghost use Rattle.ck_base.specs.Name.{is_generic};
 
 use crate::plan::{ConverterPlan, PlanEntry};
 use ck_base::attributes::Attrs;
@@ -180,8 +181,8 @@ fn converts(plans: &[ConverterPlan], name: &Name) -> bool
 }
 
 /// Whether a name begins with `$`.
-pub fn is_reserved(name: &Name) -> bool
-    ensures { result ≡ is_reserved name.now }
+pub fn is_generic(name: &Name) -> bool
+    ensures { result ≡ is_generic name.now }
 {
     matches!(name.as_str().as_bytes(), [b'$', ..])
 }
@@ -196,7 +197,7 @@ pub fn first_without_converter<'a>(
     ensures { option_copied result ≡ first_without_converter plans.now registered.now }
 {
     for name in registered {
-        if !is_reserved(name) && !converts(plans, name) {
+        if !is_generic(name) && !converts(plans, name) {
             return Some(name);
         }
     }

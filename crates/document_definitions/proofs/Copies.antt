@@ -7,16 +7,7 @@ use Rattle.std.specs.Cmp.Lexicographic.{nat_list_cmp_total}
 use Rattle.std.specs.FinMap.Entries.{below_all}
 use Rattle.std.proofs.lemmas.List.{append_assoc}
 use Rattle.ck_base.specs.Entries.{name_cmp, IsOrdered, with_value}
-use Rattle.ck_base.proofs.Common.{first, second}
-
-both : (a b : Bool) → a ≡ true → b ≡ true → (a && b) ≡ true
-both true b p q = q
-both false b p q = p
-
-less : (o : Ordering) → is_lt o ≡ true → o ≡ Less
-less Less e = refl
-less Equal e = cc
-less Greater e = cc
+use Rattle.ck_base.proofs.Common.{first, second, both, less}
 
 module _ {V : Type 0} where
   -- a name behind all others goes last

@@ -9,7 +9,8 @@ use Rattle.operation_definitions.specs.Level.{one_item, split_item, split_at, me
 use Rattle.operation_definitions.proofs.Lifting.{map-some, then-some, inner-with_inner}
 use Rattle.operation_definitions.proofs.Moves.{decide}
 use Rattle.document_definitions.proofs.Inside.{Inside, in_at, inside-at, inside-in}
-use Rattle.document_definitions.proofs.Parted.{replacing, get-front, get-back, lengths, room, get-before, get-behind, get-old, get-new}
+use Rattle.document_definitions.proofs.Parted.{replacing, get-back, lengths, room, get-before, get-behind, get-old, get-new}
+use Rattle.operation_definitions.proofs.Stays.{get-front}
 
 -- an element split in two
 pub record Split (at : ℕ) (shell : Item → Item) (run new : List Item) : Type 0 where

@@ -11,10 +11,11 @@ use Rattle.item_definitions.specs.Children.{Change, parent_of, offset_of, at, in
 use Rattle.item_definitions.specs.Shift.{carry_remove}
 use Rattle.operation_definitions.specs.Level.{put_in, take_out, give, given, rename_at, renamed, one_item, split_at, split_item, merge_at, merge_items}
 use Rattle.operation_definitions.specs.Operation.{Fault, Operation, in_tree, in_cell, fresh, from_cell, insert, move, attribute, rename, split, merge, marker, no_place, not_flat, into_itself, old_differs, not_neighbours, cell_state, found_name}
-use Rattle.operation_definitions.specs.After.{◌>>=◌, check, effect, in_cell_at, is_free, is_empty, fill, holds_count, shell_of, like, stands, is_in_run, have_value}
+use Rattle.operation_definitions.specs.After.{◌>>=◌, check, effect, in_cell_at, is_free, is_empty, fill, holds_count, shell_of, like, room_at, is_in_run, have_value}
 use Rattle.operation_definitions.proofs.Lifting.{map-some, then-some}
 use Rattle.operation_definitions.proofs.Steps.{step-ok, ok_or-some, check-true}
 use Rattle.operation_definitions.proofs.Simple.{State, pair-first, pair-second}
+use Rattle.operation_definitions.proofs.Elements.{cell-there}
 use Rattle.document_definitions.specs.Document.{ids_of, ids_of_item, ids_of_inner, brought}
 use Rattle.document_definitions.proofs.Parted.{Parted, replacing}
 use Rattle.document_definitions.proofs.Kept.{parted-in, parted-out}
@@ -261,11 +262,6 @@ module _ (id : ℕ) where
   shell-held (element own name attributes none ∷ next ∷ rest) shell e = absurd cc
   shell-held (element own name attributes (more item items) ∷ next ∷ rest) shell e = absurd cc
 
-  cell-there : (cells : List (List Item)) (n : ℕ) (shell : Item) → in_cell_at cells n ≡ shell ∷ [] → n < length cells
-  cell-there [] n shell e = absurd cc
-  cell-there (cell ∷ cells) zero shell e = omega arith
-  cell-there (cell ∷ cells) (suc n) shell e = (let less : n < length cells = cell-there cells n shell e in omega arith)
-
   less-true : (a b : ℕ) → nat_lt a b ≡ true → a < b
   less-true a b e = grind (arith, nat_tests)
 
@@ -280,10 +276,10 @@ module _ (id : ℕ) where
   effect-counts items cells (move (in_tree from) count (in_tree to)) made e =
       let target = carry_remove from count to in
       let last : List Item × List Item → Result State Fault = λ taken. ok_or (at (parent_of target) (put_in (offset_of target) taken.1) taken.0) no_place >>= (λ m. Ok (m.0, cells)) in
-      let next : List Item × List Item → Result State Fault = λ taken. ok_or (stands items to) no_place >>= (λ _. check (not (is_in_run from count to)) into_itself >>= (λ _. last taken)) in
+      let next : List Item × List Item → Result State Fault = λ taken. ok_or (room_at items to) no_place >>= (λ _. check (not (is_in_run from count to)) into_itself >>= (λ _. last taken)) in
       let a = step-ok (ok_or (at (parent_of from) (take_out (offset_of from) count) items) no_place) next made e in
       let taken = ok_or-some (at (parent_of from) (take_out (offset_of from) count) items) no_place a.0 a.1 in
-      let b = step-ok (ok_or (stands items to) no_place) (λ _. check (not (is_in_run from count to)) into_itself >>= (λ _. last a.0)) made a.2 in
+      let b = step-ok (ok_or (room_at items to) no_place) (λ _. check (not (is_in_run from count to)) into_itself >>= (λ _. last a.0)) made a.2 in
       let c = step-ok (check (not (is_in_run from count to)) into_itself) (λ _. last a.0) made b.2 in
       let d = step-ok (ok_or (at (parent_of target) (put_in (offset_of target) a.0.1) a.0.0) no_place) (λ m. Ok (m.0, cells)) made c.2 in
       let put_there = ok_or-some (at (parent_of target) (put_in (offset_of target) a.0.1) a.0.0) no_place d.0 d.1 in
@@ -349,8 +345,8 @@ module _ (id : ℕ) where
       let last : List Item × Item → Result State Fault = λ m. Ok (m.0, set cells number []) in
       let next : Item → Result State Fault = λ shell. ok_or (at above (change shell) items) no_place >>= last in
       let first : List Item × Unit {0} → Result State Fault = λ _. ok_or (shell_of held) (cell_state number) >>= next in
-      let a = step-ok (check (nat_le 2 (length position)) no_place) (λ _. ok_or (stands items position) no_place >>= first) made e in
-      let b = step-ok (ok_or (stands items position) no_place) first made a.2 in
+      let a = step-ok (check (nat_le 2 (length position)) no_place) (λ _. ok_or (room_at items position) no_place >>= first) made e in
+      let b = step-ok (ok_or (room_at items position) no_place) first made a.2 in
       let c = step-ok (ok_or (shell_of held) (cell_state number)) next made b.2 in
       let found = ok_or-some (shell_of held) (cell_state number) c.0 c.1 in
       let bare = shell-inner held c.0 found in

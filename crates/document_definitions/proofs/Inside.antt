@@ -7,6 +7,7 @@ use Rattle.item_definitions.specs.Position.{IsIn}
 use Rattle.item_definitions.specs.Shift.{within}
 use Rattle.operation_definitions.proofs.Lifting.{map-some, then-some, inner-with_inner, get-set}
 use Rattle.operation_definitions.proofs.Moves.{decide, within-same, within-other}
+use Rattle.operation_definitions.proofs.Stays.{get-other}
 
 -- the items in the item at an index: None where no element stands there
 abbrev pub in_at : List Item → ℕ → Option (List Item)
@@ -78,13 +79,6 @@ pub record Through {R : Type 0} (xs : List Item) (i : ℕ) (change : Change R) (
   pub then_there : in_at ys i ≡ Some new
   pub long : length ys ≡ length xs
   pub others : (j : ℕ) → i ≢ j → slice_get ys j ≡ slice_get xs j
-
-get-other : (xs : List Item) (i j : ℕ) (x : Item) → i ≢ j → slice_get (slice_set xs i x) j ≡ slice_get xs j
-get-other [] i j x differ = refl
-get-other (y ∷ xs) zero zero x differ = absurd (differ refl)
-get-other (y ∷ xs) zero (suc j) x differ = refl
-get-other (y ∷ xs) (suc i) zero x differ = refl
-get-other (y ∷ xs) (suc i) (suc j) x differ = get-other xs i j x (λ e. differ (ap suc e))
 
 pub through : {R : Type 0} (xs : List Item) (i : ℕ) (change : Change R) (ys : List Item) (r : R) → at_index i (in_item change) xs ≡ Some (ys, r) → Through xs i change ys r
 through {R = R} xs i change ys r e =

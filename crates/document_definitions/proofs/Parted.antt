@@ -3,12 +3,9 @@ use Rattle.std.proofs.Common.{◌≡◌, ℕ, zero, suc, ◌+◌, ◌<◌, ◌�
 use Rattle.item_definitions.specs.Item.{Item}
 use Rattle.item_definitions.specs.Children.{Change}
 use Rattle.operation_definitions.specs.Level.{replace}
-use Rattle.operation_definitions.proofs.Levels.{replaced, three}
-
-pub get-front : (a c : List Item) (i : ℕ) → i < length a → slice_get (a ++ c) i ≡ slice_get a i
-get-front [] c i less = absurd (omega arith)
-get-front (x ∷ a) c zero less = refl
-get-front (x ∷ a) c (suc i) less = get-front a c i (omega arith)
+use Rattle.operation_definitions.proofs.Levels.{replaced}
+use Rattle.ck_base.proofs.Common.{in_three}
+use Rattle.operation_definitions.proofs.Stays.{get-front}
 
 pub get-back : (a c : List Item) (i k : ℕ) → i ≡ length a + k → slice_get (a ++ c) i ≡ slice_get c k
 get-back [] c i k e = (let same : i ≡ k = omega (arith, e) in ap (slice_get c) same)
@@ -43,7 +40,7 @@ replacing offset count change xs ys r e =
         back = drop (offset + count) xs;
         long = omega (arith, length-take offset xs, h.room);
         many = omega (arith, length-take count (drop offset xs), length-drop offset xs, h.room);
-        before = sym (three offset count xs);
+        before = sym (in_three offset count xs);
         after = sym h.result;
       };
     }

@@ -10,7 +10,7 @@ use Rattle.item_definitions.specs.Shift.{Stick, Shift, to_next, to_previous, sta
 use Rattle.item_definitions.proofs.Order.{not_after-itself}
 use Rattle.operation_definitions.specs.Level.{put_in, take_out, give, rename_at, split_at, merge_at}
 use Rattle.operation_definitions.specs.Operation.{Fault, Operation, in_tree, in_cell, fresh, from_cell, insert, move, attribute, rename, split, merge, marker, no_place, not_flat, into_itself, old_differs, not_neighbours, cell_state, found_name}
-use Rattle.operation_definitions.specs.After.{◌>>=◌, check, after, effect, in_cell_at, is_free, fill, holds_count, shell_of, like, stands, is_in_run, have_value}
+use Rattle.operation_definitions.specs.After.{◌>>=◌, check, after, effect, in_cell_at, is_free, fill, holds_count, shell_of, like, room_at, is_in_run, have_value}
 use Rattle.operation_definitions.specs.Reversed.{HasPlaces}
 use Rattle.operation_definitions.proofs.Cells.{holds-long}
 use Rattle.operation_definitions.proofs.Steps.{step-ok, ok_or-some, check-true}
@@ -123,10 +123,10 @@ ends-in items cells (insert position new) made range places ordered e start end 
 ends-in items cells (move (in_tree from) count (in_tree to)) made range places ordered e start end =
     let target = carry_remove from count to in
     let last : List Item × List Item → Result State Fault = λ taken. ok_or (at (parent_of target) (put_in (offset_of target) taken.1) taken.0) no_place >>= (λ m. Ok (m.0, cells)) in
-    let next : List Item × List Item → Result State Fault = λ taken. ok_or (stands items to) no_place >>= (λ _. check (not (is_in_run from count to)) into_itself >>= (λ _. last taken)) in
+    let next : List Item × List Item → Result State Fault = λ taken. ok_or (room_at items to) no_place >>= (λ _. check (not (is_in_run from count to)) into_itself >>= (λ _. last taken)) in
     let a = step-ok (ok_or (at (parent_of from) (take_out (offset_of from) count) items) no_place) next made e in
     let taken = ok_or-some (at (parent_of from) (take_out (offset_of from) count) items) no_place a.0 a.1 in
-    let b = step-ok (ok_or (stands items to) no_place) (λ _. check (not (is_in_run from count to)) into_itself >>= (λ _. last a.0)) made a.2 in
+    let b = step-ok (ok_or (room_at items to) no_place) (λ _. check (not (is_in_run from count to)) into_itself >>= (λ _. last a.0)) made a.2 in
     let c = step-ok (check (not (is_in_run from count to)) into_itself) (λ _. last a.0) made b.2 in
     let d = step-ok (ok_or (at (parent_of target) (put_in (offset_of target) a.0.1) a.0.0) no_place) (λ m. Ok (m.0, cells)) made c.2 in
     let put_there = ok_or-some (at (parent_of target) (put_in (offset_of target) a.0.1) a.0.0) no_place d.0 d.1 in
@@ -186,8 +186,8 @@ ends-in items cells (split position (from_cell number)) made range places ordere
     let last : List Item × Item → Result State Fault = λ m. Ok (m.0, set cells number []) in
     let next : Item → Result State Fault = λ shell. ok_or (at above (change shell) items) no_place >>= last in
     let first : List Item × Unit {0} → Result State Fault = λ _. ok_or (shell_of held) (cell_state number) >>= next in
-    let a = step-ok (check (nat_le 2 (length position)) no_place) (λ _. ok_or (stands items position) no_place >>= first) made e in
-    let b = step-ok (ok_or (stands items position) no_place) first made a.2 in
+    let a = step-ok (check (nat_le 2 (length position)) no_place) (λ _. ok_or (room_at items position) no_place >>= first) made e in
+    let b = step-ok (ok_or (room_at items position) no_place) first made a.2 in
     let c = step-ok (ok_or (shell_of held) (cell_state number)) next made b.2 in
     let bare = shell-inner held c.0 (ok_or-some (shell_of held) (cell_state number) c.0 c.1) in
     let d = step-ok (ok_or (at above (change c.0) items) no_place) last made c.2 in
@@ -214,7 +214,7 @@ ends-in items cells (marker name old new) made range places ordered e start end 
     subst (λ ys. EndsIn stay ys range) (pair-first (items, cells) made e) (start, end)
 
 -- a range that is carried is in the tree
-pub range-in : (shift : Shift) (ys : List Item) (range : Range) → EndsIn shift ys range → IsRange (child_count ys) (carry_range shift range)
+range-in : (shift : Shift) (ys : List Item) (range : Range) → EndsIn shift ys range → IsRange (child_count ys) (carry_range shift range)
 range-in shift ys range ends = go (is_before (carried_ends shift range).end (carried_ends shift range).start) refl
   where
     ordered : (b : Bool) → not b ≡ false → b ≡ true

@@ -5,11 +5,13 @@ use Rattle.std.specs.declared.cmp.Ordering.{Ordering}
 use Rattle.std.specs.declared.cmp.Ordering.TheVariants.{Less, Equal, Greater}
 use Rattle.std.specs.Cmp.Lexicographic.{nat_list_cmp_total}
 use Rattle.std.proofs.lemmas.Bool.Decides.{nat_tests}
+use Rattle.ck_base.proofs.Common.{first, second}
 use Rattle.item_definitions.specs.Item.{Item}
 use Rattle.item_definitions.specs.Children.{at, parent_of, offset_of}
 use Rattle.item_definitions.specs.Position.{Range, position_cmp, not_after, is_before}
 use Rattle.item_definitions.specs.Shift.{rest_behind, forward, lies_in_run, with_run, run_place}
 use Rattle.item_definitions.proofs.Order.{not_after-cons}
+use Rattle.item_definitions.proofs.Minimal.{not_after-trans}
 use Rattle.operation_definitions.specs.Level.{put_in, take_out}
 use Rattle.document_definitions.proofs.Inside.{Inside, in_at, inside-at, inside-in, through}
 use Rattle.document_definitions.proofs.Parted.{Parted, lengths, room, get-old, get-new}
@@ -145,26 +147,6 @@ le-cases Less e = inl refl
 le-cases Equal e = inr refl
 le-cases Greater e = absurd cc
 
-pub not_after-trans : (p q r : List ℕ) → not_after p q ≡ true → not_after q r ≡ true → not_after p r ≡ true
-not_after-trans p q r e f =
-    elim (le-cases (position_cmp p q) e) [
-      | inl less ↦ elim (le-cases (position_cmp q r) f) [
-        | inl then_less ↦ ap is_le (nat_list_cmp_total.trans p q r less then_less)
-        | inr tied ↦ ap is_le (later less tied)
-      ]
-      | inr tied ↦ ap is_le (nat_list_cmp_total.congr p q r tied) ∙ f
-    ]
-  where
-    turned-less : (o : Ordering) → ordering_reverse o ≡ Greater → o ≡ Less
-    turned-less Less e = refl
-    turned-less Equal e = absurd cc
-    turned-less Greater e = absurd cc
-
-    later : position_cmp p q ≡ Less → position_cmp q r ≡ Equal → position_cmp p r ≡ Less
-    later less tied =
-        let back : position_cmp r p ≡ position_cmp q p = sym (nat_list_cmp_total.congr q r p tied) in
-        nat_list_cmp_total.antisymm p r ∙ ap ordering_reverse back ∙ sym (nat_list_cmp_total.antisymm p q) ∙ less
-
 -- both ends of a range that lies in a run are between the ends of the run
 pub run-ends : (from : List ℕ) (count : ℕ) (range : Range) → not_after range.start range.end ≡ true → lies_in_run from count range ≡ true
     → (not_after from range.start ≡ true) × (not_after range.start (forward count from) ≡ true) × (not_after from range.end ≡ true) × (not_after range.end (forward count from) ≡ true)
@@ -174,18 +156,10 @@ run-ends from count range ordered lies = go (is_before range.start range.end) li
         → (not_after from range.start ≡ true) × (not_after range.start (forward count from) ≡ true) × (not_after from range.end ≡ true) × (not_after range.end (forward count from) ≡ true)
     with_bounds low high = (low, not_after-trans range.start range.end (forward count from) ordered high, not_after-trans from range.start range.end low ordered, high)
 
-    both-first : (a b : Bool) → (a && b) ≡ true → a ≡ true
-    both-first true b e = refl
-    both-first false b e = absurd cc
-
-    both-second : (a b : Bool) → (a && b) ≡ true → b ≡ true
-    both-second true b e = e
-    both-second false b e = absurd cc
-
     go : (t : Bool) → (if t then not_after from range.start && not_after range.end (forward count from) else is_before from range.start && is_before range.end (forward count from)) ≡ true
         → (not_after from range.start ≡ true) × (not_after range.start (forward count from) ≡ true) × (not_after from range.end ≡ true) × (not_after range.end (forward count from) ≡ true)
-    go true e = with_bounds (both-first _ _ e) (both-second _ _ e)
-    go false e = with_bounds (before-not_after from range.start (both-first _ _ e)) (before-not_after range.end (forward count from) (both-second _ _ e))
+    go true e = with_bounds (first _ _ e) (second _ _ e)
+    go false e = with_bounds (before-not_after from range.start (first _ _ e)) (before-not_after range.end (forward count from) (second _ _ e))
 
 -- a position in a run that moves is in the tree where it goes
 pub run-goes : (from to : List ℕ) (count : ℕ) (xs left ys run : List Item) (r : Unit {0}) (position : List ℕ) → from ≢ [] → at (parent_of from) (take_out (offset_of from) count) xs ≡ Some (left, run)

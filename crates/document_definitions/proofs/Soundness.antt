@@ -10,12 +10,14 @@ use Rattle.std.proofs.lemmas.Bool.Decides.{nat_tests}
 use Rattle.std.proofs.lemmas.List.Elements.{All-cons, All-head, All-tail}
 use Rattle.ck_base.specs.Entries.{name_cmp, IsOrdered, with_value, without}
 use Rattle.ck_base.proofs.Ordered.{ordered_with_value, ordered_without}
+use Rattle.ck_base.proofs.Common.{first_and_second}
 use Rattle.item_definitions.specs.Item.{Item}
 use Rattle.item_definitions.specs.Children.{child_count}
 use Rattle.item_definitions.specs.Position.{Range, between, IsRange}
 use Rattle.item_definitions.specs.Shift.{Shift, carry_range}
 use Rattle.operation_definitions.specs.Operation.{Operation, insert, move, attribute, rename, split, merge, marker}
 use Rattle.operation_definitions.specs.After.{after}
+use Rattle.operation_definitions.specs.Reversed.{HasPlaces}
 use Rattle.operation_definitions.proofs.Steps.{step-ok}
 use Rattle.operation_definitions.proofs.Names.{same_numbers}
 use Rattle.operation_definitions.proofs.Simple.{after-effect, pair-first}
@@ -24,7 +26,7 @@ use Rattle.document_definitions.specs.Markers.{Markers}
 use Rattle.document_definitions.specs.Selection as selections
 use Rattle.document_definitions.specs.Selection.{Selection, selected, is_collapsed, same_position, same_range}
 use Rattle.document_definitions.specs.Document.{State, ids_of, brought, raised, shift_of, markers_after, changed, applied}
-use Rattle.document_definitions.specs.Sound.{ids_in, AreIn, IsSelection, IsSound, IsMarkerIn, IsFitting}
+use Rattle.document_definitions.specs.Sound.{ids_in, AreIn, IsSelection, IsSound, IsMarkerIn, IsWelcome}
 use Rattle.document_definitions.proofs.Ids.{times, times-append, effect-counts}
 use Rattle.document_definitions.proofs.Ranges.{keeps_ranges}
 use Rattle.document_definitions.proofs.Limits.{after-limited}
@@ -148,14 +150,9 @@ taken-from_all xs name (entry ∷ all) h = go (name_cmp name entry.0) (taken-fro
     go Equal rest = All-tail In entry all h
     go Greater rest = All-cons In entry (without name all) (All-head In entry all h) rest
 
--- a selection that is carried
-both-true : (a b : Bool) → (a && b) ≡ true → (a ≡ true) × (b ≡ true)
-both-true true b e = (refl, e)
-both-true false b e = absurd cc
-
 same-range : (range other : Range) → same_range range other ≡ true → range ≡ other
 same-range range other e =
-    let b = both-true (same_position range.start other.start) (same_position range.end other.end) e in
+    let b = first_and_second (same_position range.start other.start) (same_position range.end other.end) e in
     λ i. between (same_numbers range.start other.start b.0 i) (same_numbers range.end other.end b.1 i)
 
 selected-in : (ys : List Item) (range : Range) (backward : Bool) → IsRange (child_count ys) range → IsSelection ys (selected range backward)
@@ -192,9 +189,9 @@ made-times operation state made e id =
     omega (arith, a, b, c, d)
 
 -- all markers but the one that is named are carried, and none is named by another operation
-markers-in : (operation : Operation) (state : State) (made : List Item × List (List Item)) → IsFitting operation state → after state.document.items state.cells operation ≡ Ok made
+markers-in : (operation : Operation) (state : State) (made : List Item × List (List Item)) → HasPlaces operation → IsWelcome operation state → after state.document.items state.cells operation ≡ Ok made
     → AreIn state.document.items state.document.markers → AreIn made.0 (markers_after operation state.document.markers)
-markers-in operation state made fits e h = go operation fits.ranged (λ range there. keeps_ranges state.document.items state.cells operation made range fits.places e there) (same operation e)
+markers-in operation state made places fits e h = go operation fits.ranged (λ range there. keeps_ranges state.document.items state.cells operation made range places e there) (same operation e)
   where
     all : Markers
     all = state.document.markers
@@ -236,9 +233,9 @@ markers-named (rename path old new) all h = carried_ordered (shift_of (rename pa
 markers-named (split position source) all h = carried_ordered (shift_of (split position source)) all h
 markers-named (merge right target cell) all h = carried_ordered (shift_of (merge right target cell)) all h
 
-changed-sound : (operation : Operation) (state : State) (made : List Item × List (List Item)) → IsSound state → IsFitting operation state → after state.document.items state.cells operation ≡ Ok made
+changed-sound : (operation : Operation) (state : State) (made : List Item × List (List Item)) → IsSound state → HasPlaces operation → IsWelcome operation state → after state.document.items state.cells operation ≡ Ok made
     → IsSound (changed operation state made)
-changed-sound operation state made sound fits e =
+changed-sound operation state made sound places fits e =
     let next = state.document.next_id in
     let old = ids_in state.document.items state.cells in
     let ids = ids_in made.0 made.1 in
@@ -249,9 +246,9 @@ changed-sound operation state made sound fits e =
       drawn = each_from (λ id. (1 ≤ id) × (id < raised next (brought operation))) ids (λ id here. known id (let a = counts id in let b = times-append id (brought operation) old in omega (arith, a, b, here)));
       next = raised-most (brought operation) next sound.next fits.known;
       some = (let least = raised-least (brought operation) next in let first = sound.some in omega (arith, least, first));
-      markers = markers-in operation state made fits e sound.markers;
+      markers = markers-in operation state made places fits e sound.markers;
       named = markers-named operation state.document.markers sound.named;
-      selection = selection-in (shift_of operation) state.document.items made.0 state.document.selection (keeps_ranges state.document.items state.cells operation made state.document.selection.range fits.places e) sound.selection;
+      selection = selection-in (shift_of operation) state.document.items made.0 state.document.selection (keeps_ranges state.document.items state.cells operation made state.document.selection.range places e) sound.selection;
       keyed = overrides-ordered (shift_of operation) state.document.selection sound.keyed;
       limited = after-limited state.document.items state.cells operation made e;
     }
@@ -268,8 +265,8 @@ changed-sound operation state made sound fits e =
             let came : 1 ≤ times id (brought operation) = omega (arith, e) in
             ((of_each (λ id. (1 ≤ id) × (id < 2 ^ 63)) (brought operation) fits.known id came).0, raised-above (brought operation) state.document.next_id id came)
 
-pub keeps_soundness : (operation : Operation) (state new : State) → IsSound state → IsFitting operation state → applied operation state ≡ Ok new → IsSound new
-keeps_soundness operation state new sound fits e =
+pub keeps_soundness : (operation : Operation) (state new : State) → IsSound state → HasPlaces operation → IsWelcome operation state → applied operation state ≡ Ok new → IsSound new
+keeps_soundness operation state new sound places fits e =
     let a = step-ok (after state.document.items state.cells operation) (λ made. Ok (changed operation state made)) new e in
     let same : changed operation state a.0 ≡ new = cc in
-    subst IsSound same (changed-sound operation state a.0 sound fits a.1)
+    subst IsSound same (changed-sound operation state a.0 sound places fits a.1)

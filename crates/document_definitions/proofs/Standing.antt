@@ -10,7 +10,8 @@ use Rattle.operation_definitions.specs.Level.{put_in, take_out, split_at, merge_
 use Rattle.operation_definitions.proofs.Lifting.{map-some, then-some}
 use Rattle.operation_definitions.proofs.Moves.{decide, within-same, within-other, insert-is, before-le}
 use Rattle.document_definitions.proofs.Inside.{in_at, through, offset-stays}
-use Rattle.document_definitions.proofs.Parted.{Parted, get-front, get-back, get-before, get-behind}
+use Rattle.document_definitions.proofs.Parted.{Parted, get-back, get-before, get-behind}
+use Rattle.operation_definitions.proofs.Stays.{get-front}
 use Rattle.document_definitions.proofs.Kept.{parted-in, parted-out}
 use Rattle.document_definitions.proofs.Halves.{IsShell, Halves, halves, Joined, joined, get-some}
 

@@ -1,13 +1,13 @@
 -- The selection of a document, and the attributes that text typed there gets. (After `DocumentSelection` of CKEditor 5's model; what
 -- the selection's own attributes are, and when they go, is this engine's own rule.)
-use Rattle.std.specs.Prelude.{ℕ, ◌-◌, List, [], ◌∷◌, ◌++◌, Bool, true, false, ◌&&◌, not, ◌==◌, if◌then◌else◌, nat_eq, Option, Some, None, find, fold, option_and_then, unwrap_or}
+use Rattle.std.specs.Prelude.{ℕ, List, [], ◌∷◌, Bool, true, false, ◌&&◌, not, ◌==◌, if◌then◌else◌, nat_eq, Option, Some, None, find, fold, option_and_then, unwrap_or}
 use Rattle.std.specs.Option.{option_or}
 use Rattle.std.specs.Cmp.Lexicographic.{pointwise}
 use Rattle.ck_base.specs.declared.value.Value.{Value as AttributeValue}
 use Rattle.ck_base.specs.Entries.{with_value}
 use Rattle.item_definitions.specs.Item.{Item, character, element, Attributes}
-use Rattle.item_definitions.specs.Children.{parent_of, offset_of, item_at, walk}
-use Rattle.item_definitions.specs.Position.{Range, holds}
+use Rattle.item_definitions.specs.Children.{offset_of, item_at, walk}
+use Rattle.item_definitions.specs.Position.{Range, path_before, holds}
 use Rattle.item_definitions.specs.Shift.{Shift, carry_range}
 use Rattle.operation_definitions.specs.Level.{with_key}
 
@@ -64,7 +64,7 @@ character_at items path = option_and_then of_character (item_at path items)
 
 -- the path of the item directly before a position in the same parent: None at the parent's start
 abbrev pub before : List ℕ → Option (List ℕ)
-before position = if offset_of position == 0 then None else Some (parent_of position ++ (offset_of position - 1) ∷ [])
+before position = if offset_of position == 0 then None else Some (path_before position)
 
 -- the attributes of the first character that is wholly in a range
 abbrev pub first_in : List Item → Range → Option Attributes

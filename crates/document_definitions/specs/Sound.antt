@@ -6,7 +6,7 @@ use Rattle.item_definitions.specs.Item.{Item}
 use Rattle.item_definitions.specs.Children.{child_count}
 use Rattle.item_definitions.specs.Position.{Range, IsRange}
 use Rattle.item_definitions.specs.Shift.{Shift, IsWithinLimits, carried_ends}
-use Rattle.operation_definitions.specs.Reversed.{IsLimited, AreOrdered, HasPlaces}
+use Rattle.operation_definitions.specs.Reversed.{IsLimited, AreOrdered}
 use Rattle.operation_definitions.specs.After.{in_cell_at}
 use Rattle.document_definitions.specs.Markers.{Markers}
 use Rattle.document_definitions.specs.Selection.{Selection, is_collapsed}
@@ -44,9 +44,8 @@ IsMarkerIn items (marker name old (Some range)) = IsRange (child_count items) ra
 IsMarkerIn items operation = Unit {0}
 
 -- What an operation may bring: ids that are new in the tree and the cells, distinct, and from 1 to 2^63 - 1; and a marker's range that is
--- in the tree. A move names positions, which aren't empty.
-pub record IsFitting (operation : Operation) (state : State) : Type 0 where
-  pub places : HasPlaces operation
+-- in the tree.
+pub record IsWelcome (operation : Operation) (state : State) : Type 0 where
   pub fresh : IsDistinct nat_eq (brought operation ++ ids_in state.document.items state.cells)
   pub known : All (λ id. (1 ≤ id) × (id < 2 ^ 63)) (brought operation)
   pub ranged : IsMarkerIn state.document.items operation

@@ -11,7 +11,7 @@ ghost use Rattle.operation_definitions.specs.Operation.{Operation};
 ghost use Rattle.operation_definitions.specs.After.{after};
 ghost use Rattle.operation_definitions.specs.Reversed.{IsLimited, HasPlaces};
 ghost use Rattle.document_definitions.specs.Document.{State, shift_of, applied};
-ghost use Rattle.document_definitions.specs.Sound.{IsSound, IsFitting, IsKeyed, BringsOrdered};
+ghost use Rattle.document_definitions.specs.Sound.{IsSound, IsWelcome, IsKeyed, BringsOrdered};
 ghost use Rattle.document_definitions.specs.Staying.{item_carried, takes_out, left_by};
 
 pub mod examples;
@@ -43,7 +43,7 @@ pub fn positions_keep_to_the_limits()
 
 /// An operation that brings new ids alone keeps a sound document sound.
 pub fn operations_keep_soundness()
-    ensures { (operation : Operation) (state new : State) → IsSound state → IsFitting operation state → applied operation state ≡ Ok new → IsSound new }
+    ensures { (operation : Operation) (state new : State) → IsSound state → HasPlaces operation → IsWelcome operation state → applied operation state ≡ Ok new → IsSound new }
 {}
 
 /// An operation keeps the keys of each item in order, in the tree and in the cells, where those of the items that come in are in order.

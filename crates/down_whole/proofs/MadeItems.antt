@@ -6,7 +6,7 @@ use Rattle.model_tree.specs.declared.items.Node.TheVariants.{Run, Element}
 use Rattle.model_tree.specs.Parts.{TextParts, HeadParts}
 use Rattle.model_tree.specs.Nodes.{items_at, items_in}
 use Rattle.model_tree.proofs.Counts.{count-inner, count-append, count-characters, depth-inner, depth-append}
-use Rattle.model_tree.proofs.Shown.{length_count}
+use Rattle.item_definitions.proofs.Sizes.{length-count}
 use Rattle.model_tree.proofs.Steps.{up_to}
 use Rattle.converter_definitions.specs.Shape.{is_shape}
 use Rattle.converter_definitions.specs.Gives.{Conversion, Converted}
@@ -125,7 +125,7 @@ next-node read nodes index node all less is same whole =
     record {
       split = sym there;
       count = omega (arith, taken-count (index + 1) read, ap count_of there, count-append so_far (items_at node), ap count_of all_of);
-      offset = length_count so_far;
+      offset = length-count so_far;
       elements =
           omega (arith, taken-elements (index + 1) read, ap (λ list. elements_among (items_of list)) there, among-more so_far (items_at node), ap (λ list. elements_among (items_of list)) all_of);
       depth = omega (arith, taken-depth (index + 1) read, ap depth_of there, depth-append so_far (items_at node), ap depth_of all_of);

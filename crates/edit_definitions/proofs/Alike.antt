@@ -7,7 +7,7 @@ use Rattle.item_definitions.specs.Children.{parent_of, offset_of, at}
 use Rattle.item_definitions.specs.Shift.{carry_remove}
 use Rattle.operation_definitions.specs.Level.{put_in, take_out, give, rename_at, split_at, merge_at}
 use Rattle.operation_definitions.specs.Operation.{Fault, no_place, not_flat, into_itself, old_differs, found_name, not_neighbours, cell_state, too_large, too_deep, in_tree, in_cell, fresh, from_cell, Operation, insert, move, attribute, rename, split, merge, marker}
-use Rattle.operation_definitions.specs.After.{◌>>=◌, most_items, most_levels, is_empty, in_cell_at, is_free, fill, check, stands, is_in_run, have_value, like, effect, limited, after}
+use Rattle.operation_definitions.specs.After.{◌>>=◌, most_items, most_levels, is_empty, in_cell_at, is_free, fill, check, room_at, is_in_run, have_value, like, effect, limited, after}
 use Rattle.document_definitions.specs.Document.{Document, State, changed, applied, all_applied}
 use Rattle.edit_definitions.proofs.Cells.{numbered, filled, IsOutward, numbered_from, AreOutward}
 
@@ -74,7 +74,7 @@ effect-like items cells others (insert position new) h = ends-with cells others 
 effect-like items cells others (move (in_cell number) count to) h = absurd h
 effect-like items cells others (move (in_tree from) count (in_tree to)) h =
     like-step (length cells + 0) (length others + 0) (ok_or (at (parent_of from) (take_out (offset_of from) count) items) no_place) (λ taken. there taken cells) (λ taken. there taken others) (λ taken.
-    like-step (length cells + 0) (length others + 0) (ok_or (stands items to) no_place) (λ _. outside taken cells) (λ _. outside taken others) (λ _.
+    like-step (length cells + 0) (length others + 0) (ok_or (room_at items to) no_place) (λ _. outside taken cells) (λ _. outside taken others) (λ _.
     like-check (length cells + 0) (length others + 0) (not (is_in_run from count to)) into_itself (put taken >>= (λ made. Ok (made.0, cells))) (put taken >>= (λ made. Ok (made.0, others)))
     (ends-with cells others (put taken))))
   where
@@ -85,7 +85,7 @@ effect-like items cells others (move (in_tree from) count (in_tree to)) h =
     outside taken cells = check (not (is_in_run from count to)) into_itself >>= (λ _. put taken >>= (λ made. Ok (made.0, cells)))
 
     there : List Item × List Item → List (List Item) → Result Made Fault
-    there taken cells = ok_or (stands items to) no_place >>= (λ _. outside taken cells)
+    there taken cells = ok_or (room_at items to) no_place >>= (λ _. outside taken cells)
 effect-like items cells others (move (in_tree from) count (in_cell number)) h =
     like-step (length cells + 1) (length others + 1) (ok_or (at (parent_of from) (take_out (offset_of from) count) items) no_place) (store cells) (store others) (λ taken. stored cells others taken.0 taken.1)
   where

@@ -8,6 +8,7 @@ use Rattle.std.proofs.lemmas.Slice.{drop-append-drop}
 use Rattle.std.proofs.lemmas.Bool.Decides.{nat_tests}
 use Rattle.ck_base.specs.declared.value.Value.{Value as AttributeValue}
 use Rattle.ck_base.specs.Entries.{value_of}
+use Rattle.ck_base.proofs.Common.{first_and_second, in_three}
 use Rattle.item_definitions.specs.Item.{Item, character, element, inner, with_inner, attributes_of, with_attributes}
 use Rattle.item_definitions.specs.Children.{parent_of, offset_of, children_at, at, in_item}
 use Rattle.item_definitions.specs.Position.{Range, between, not_after}
@@ -25,7 +26,7 @@ use Rattle.operation_definitions.proofs.Values.{same_value-true, same_value-own}
 use Rattle.document_definitions.specs.Document.{State, changed, all_applied}
 use Rattle.model_tree.specs.OneValue.{HaveOne}
 use Rattle.model_tree.proofs.OneValue.{passed_first}
-use Rattle.operation_definitions.proofs.Levels.{three}
+use Rattle.operation_definitions.proofs.Stays.{get-other}
 use Rattle.item_definitions.specs.Children.{child_count}
 use Rattle.edit_definitions.specs.Runs.{Run, joined, runs_of, items_of_range, attribute_runs, give_in}
 use Rattle.edit_definitions.specs.Applied.{AreApplied}
@@ -77,7 +78,7 @@ give-inner offset count key value xs ys run e =
     let c = drop (offset + count) xs in
     let new : given key value b ≡ r.new = ap (λ (o : Option (List Item × List Item)). option_map_or (λ (m : List Item × List Item). m.0) o []) r.gives in
     ap (map inner) (sym r.result ∙ ap (λ n. a ++ (n ++ c)) (sym new))
-    ∙ parts a (given key value b) c ∙ ap (λ m. map inner a ++ (m ++ map inner c)) (inner-kept key value b) ∙ sym (parts a b c) ∙ ap (map inner) (three offset count xs)
+    ∙ parts a (given key value b) c ∙ ap (λ m. map inner a ++ (m ++ map inner c)) (inner-kept key value b) ∙ sym (parts a b c) ∙ ap (map inner) (in_three offset count xs)
   where
     parts : (a b c : List Item) → map inner (a ++ (b ++ c)) ≡ map inner a ++ (map inner b ++ map inner c)
     parts a b c = map-append inner a (b ++ c) ∙ ap (λ m. map inner a ++ m) (map-append inner b c)
@@ -88,13 +89,6 @@ below-same [] (y ∷ ys) index path e = absurd cc
 below-same (x ∷ xs) [] index path e = absurd cc
 below-same (x ∷ xs) (y ∷ ys) zero path e = (let same : inner x ≡ inner y = cc in ap (option_and_then (children_at path)) same)
 below-same (x ∷ xs) (y ∷ ys) (suc index) path e = (let same : map inner xs ≡ map inner ys = cc in below-same xs ys index path same)
-
-get-other : (xs : List Item) (i j : ℕ) (x : Item) → i ≢ j → slice_get (slice_set xs i x) j ≡ slice_get xs j
-get-other [] i j x differ = refl
-get-other (y ∷ xs) zero zero x differ = absurd (differ refl)
-get-other (y ∷ xs) zero (suc j) x differ = refl
-get-other (y ∷ xs) (suc i) zero x differ = refl
-get-other (y ∷ xs) (suc i) (suc j) x differ = get-other xs i j x (λ e. differ (ap suc e))
 
 set-attributes : (xs : List Item) (index : ℕ) (x y : Item) → slice_get xs index ≡ Some x → attributes_of y ≡ attributes_of x → map attributes_of (slice_set xs index y) ≡ map attributes_of xs
 set-attributes [] index x y e f = absurd cc
@@ -161,7 +155,7 @@ pub record Attributed (key : List ℕ) (new : Option AttributeValue) (items : Li
   pub long : length then_level ≡ length level
   pub rest : (n : ℕ) → offset_of spot.range.end ≤ n → drop n then_level ≡ drop n level
 
-pub attributed : (key : List ℕ) (new : Option AttributeValue) (items : List Item) (cells : List (List Item)) (spot : Spot) (fits : Fits key items spot) → Attributed key new items cells spot fits.level
+attributed : (key : List ℕ) (new : Option AttributeValue) (items : List Item) (cells : List (List Item)) (spot : Spot) (fits : Fits key items spot) → Attributed key new items cells spot fits.level
 attributed key new items cells spot fits =
     let parent = parent_of spot.range.start in
     let offset = offset_of spot.range.start in
@@ -186,7 +180,7 @@ attributed key new items cells spot fits =
       made = whole.made;
       then_level = then_level;
       there = whole.there;
-      long = level-long offset count fits.level run (three offset count fits.level);
+      long = level-long offset count fits.level run (in_three offset count fits.level);
       rest = λ n most. ap (drop n) (sym assoc) ∙ drop-append-drop (offset + count) fits.level (take offset fits.level ++ given key new run) n (omega (arith, most, end)) front;
     }
   where
@@ -332,15 +326,11 @@ joined-runs key offset item items (run ∷ runs) h apart = go (run.from == offse
     old : Option AttributeValue
     old = value_of key (attributes_of item)
 
-    both : (a b : Bool) → (a && b) ≡ true → (a ≡ true) × (b ≡ true)
-    both true b e = (refl, e)
-    both false b e = absurd cc
-
     go : (t : Bool) → (run.from == offset + 1 && same_value run.old old) ≡ t
         → AreRunsOf key offset (item ∷ items) (if t then record { from = offset; to = run.to; old = old } ∷ runs else record { from = offset; to = offset + 1; old = old } ∷ run ∷ runs)
         × AreApart (if t then record { from = offset; to = run.to; old = old } ∷ runs else record { from = offset; to = offset + 1; old = old } ∷ run ∷ runs)
     go true e =
-        let b = both (run.from == offset + 1) (same_value run.old old) e in
+        let b = first_and_second (run.from == offset + 1) (same_value run.old old) e in
         let next : run.from ≡ offset + 1 = (let t = b.0 in grind (arith, nat_tests)) in
         ((longer-run key offset item items run next (same_value-true run.old old b.1) h.0, later-runs key offset item items runs h.1), apart)
     go false e = ((one-run key offset item items, later-runs key offset item items (run ∷ runs) h), (all-behind key (offset + 1) items (run ∷ runs) h, apart))

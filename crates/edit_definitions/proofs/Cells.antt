@@ -7,7 +7,7 @@ use Rattle.ck_base.specs.declared.faults.EditFault.TheVariants.{NotRegistered, B
 use Rattle.ck_base.specs.Entries.{value_of}
 use Rattle.item_definitions.specs.Item.{Item, character}
 use Rattle.item_definitions.specs.Children.{parent_of, offset_of, child_count, item_at}
-use Rattle.item_definitions.specs.Position.{Range, between, behind}
+use Rattle.item_definitions.specs.Position.{Range, between, behind, path_before}
 use Rattle.item_definitions.specs.FlatParts.{flat_parts}
 use Rattle.operation_definitions.specs.Operation.{in_tree, in_cell, fresh, from_cell, Operation, insert, move, attribute, rename, split, merge, marker}
 use Rattle.document_definitions.specs.Document.{Document, ids_of}
@@ -15,7 +15,7 @@ use Rattle.document_definitions.specs.Selection.{same_position, same_range}
 use Rattle.edit_definitions.specs.declared.edit.Edit.{Edit}
 use Rattle.edit_definitions.specs.declared.edit.Edit.TheVariants.{InsertText, InsertElement, Remove, Move, SetAttribute, RemoveAttribute, Rename, Split, Merge, Wrap, Unwrap, AddMarker, UpdateMarker, RemoveMarker, Select, SelectionAttribute, InsertItems}
 use Rattle.edit_definitions.specs.declared.edit.Target.{Target}
-use Rattle.edit_definitions.specs.Places.{is_there, is_range, are_in_one, is_element, path_before, is_between, is_known}
+use Rattle.edit_definitions.specs.Places.{is_there, is_range, are_in_one, is_element, is_between, is_known}
 use Rattle.edit_definitions.specs.Runs.{Run, attribute_runs, give_in, runs_of, items_of_range, with_ids}
 use Rattle.edit_definitions.specs.Planned.{◌>>=◌, check, insertion, empty_element, removals, moved_run, count_in, given_to, parts_of, renaming, name_of, known_names, unknown_in, operations_of}
 

@@ -3,6 +3,7 @@ use Rattle.std.proofs.Common.{◌≡◌, ℕ, zero, suc, ◌+◌, ◌<◌, ◌�
 use Rattle.std.proofs.lemmas.Bool.Decides.{nat_tests}
 use Rattle.ck_base.specs.declared.value.Value.{Value as AttributeValue}
 use Rattle.ck_base.specs.Entries.{value_of}
+use Rattle.ck_base.proofs.Common.{first_and_second}
 use Rattle.item_definitions.specs.Item.{Item, attributes_of}
 use Rattle.operation_definitions.specs.After.{same_value}
 use Rattle.operation_definitions.proofs.Values.{same_value-true, same_value-own}
@@ -22,10 +23,6 @@ front : (offset : ℕ) (old : Option AttributeValue) (runs : List Run) → AreLo
 front offset old [] longest behind = omega arith
 front offset old (run ∷ runs) longest behind = go (run.from == offset + 1 && same_value run.old old) refl runs longest
   where
-    both : (a b : Bool) → (a && b) ≡ true → (a ≡ true) × (b ≡ true)
-    both true b e = (refl, e)
-    both false b e = absurd cc
-
     first : (runs : List Run) → AreLongest (run ∷ runs) → run.from < run.to
     first [] h = h
     first (next ∷ runs) h = h.0
@@ -34,7 +31,7 @@ front offset old (run ∷ runs) longest behind = go (run.from == offset + 1 && s
         → AreLongest (if t then record { from = offset; to = run.to; old = old } ∷ runs else record { from = offset; to = offset + 1; old = old } ∷ run ∷ runs)
     go true e [] longest = (let some = longest in let late = behind.0 in omega (arith, some, late))
     go true e (next ∷ runs) longest =
-        let b = both (run.from == offset + 1) (same_value run.old old) e in
+        let b = first_and_second (run.from == offset + 1) (same_value run.old old) e in
         let same = same_value-true run.old old b.1 in
         let some = longest.0 in
         let late = behind.0 in
@@ -89,17 +86,13 @@ others offset n old (run ∷ runs) less = go (run.from == offset + 1 && same_val
     no : (to : ℕ) → to ≤ n → (nat_le offset n && nat_lt n to) ≡ false
     no to less = grind (arith, nat_tests)
 
-    both : (a b : Bool) → (a && b) ≡ true → (a ≡ true) × (b ≡ true)
-    both true b e = (refl, e)
-    both false b e = absurd cc
-
     same_test : (from to : ℕ) → from ≡ offset + 1 → (nat_le offset n && nat_lt n to) ≡ (nat_le from n && nat_lt n to)
     same_test from to e = grind (arith, nat_tests)
 
     go : (t : Bool) → (run.from == offset + 1 && same_value run.old old) ≡ t
         → value_told n (if t then record { from = offset; to = run.to; old = old } ∷ runs else record { from = offset; to = offset + 1; old = old } ∷ run ∷ runs) ≡ value_told n (run ∷ runs)
     go true e =
-        let b = both (run.from == offset + 1) (same_value run.old old) e in
+        let b = first_and_second (run.from == offset + 1) (same_value run.old old) e in
         let next : run.from ≡ offset + 1 = (let t = b.0 in grind (arith, nat_tests)) in
         (λ t. if same_test run.from run.to next t then Some (sym (same_value-true run.old old b.1) t) else value_told n runs)
     go false e = ap (λ t. if t then Some old else value_told n (run ∷ runs)) (no (offset + 1) less)

@@ -11,7 +11,7 @@ use Rattle.item_definitions.proofs.Order.{not_after-cons, not_after-parent, behi
 use Rattle.item_definitions.proofs.Paths.{parent_of-push, offset_of-push, path-joined}
 use Rattle.operation_definitions.specs.Level.{put_in, take_out}
 use Rattle.operation_definitions.specs.Operation.{Fault, no_place, into_itself, Operation, in_tree, in_cell, insert, move}
-use Rattle.operation_definitions.specs.After.{◌>>=◌, check, effect, stands, is_in_run, fill}
+use Rattle.operation_definitions.specs.After.{◌>>=◌, check, effect, room_at, is_in_run, fill}
 use Rattle.operation_definitions.specs.Reversed.{IsLimited}
 use Rattle.operation_definitions.proofs.Steps.{step, step-some, step-check}
 use Rattle.operation_definitions.proofs.Simple.{cut}
@@ -69,11 +69,11 @@ move-works items cells from count to level limits there room target_there outsid
     let new = take (offset_of target) r.level ++ ((t.1 ++ []) ++ drop (offset_of target + 0) r.level) in
     let whole = reached (parent_of target) (put_in (offset_of target) t.1) t.0 r.level new tt r.there (put-room (offset_of target) t.1 r.level r.room) in
     let last : List Item × List Item → Result Made Fault = λ taken. ok_or (at (parent_of target) (put_in (offset_of target) taken.1) taken.0) no_place >>= (λ m. Ok (m.0, cells)) in
-    let next : List Item × List Item → Result Made Fault = λ taken. ok_or (stands items to) no_place >>= (λ _. check (not (is_in_run from count to)) into_itself >>= (λ _. last taken)) in
+    let next : List Item × List Item → Result Made Fault = λ taken. ok_or (room_at items to) no_place >>= (λ _. check (not (is_in_run from count to)) into_itself >>= (λ _. last taken)) in
     record {
       made = (whole.whole, cells);
       works = step-some (at (parent_of from) (take_out (offset_of from) count) items) no_place next (t.0, t.1) (Ok (whole.whole, cells)) t.2
-          (step-some (stands items to) no_place (λ _. check (not (is_in_run from count to)) into_itself >>= (λ _. last (t.0, t.1))) (standing.whole, nothing.0.1) (Ok (whole.whole, cells)) standing.made
+          (step-some (room_at items to) no_place (λ _. check (not (is_in_run from count to)) into_itself >>= (λ _. last (t.0, t.1))) (standing.whole, nothing.0.1) (Ok (whole.whole, cells)) standing.made
           (step-check (not (is_in_run from count to)) into_itself (λ _. last (t.0, t.1)) (Ok (whole.whole, cells)) (ap not outside)
           (step-some (at (parent_of target) (put_in (offset_of target) t.1) t.0) no_place (λ m. Ok (m.0, cells)) (whole.whole, tt) (Ok (whole.whole, cells)) whole.made refl)));
       beside = refl;

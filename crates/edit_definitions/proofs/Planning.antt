@@ -7,7 +7,7 @@ use Rattle.ck_base.specs.declared.faults.EditFault.TheVariants.{NotRegistered, B
 use Rattle.ck_base.specs.Entries.{value_of}
 use Rattle.item_definitions.specs.Item.{Item, character}
 use Rattle.item_definitions.specs.Children.{offset_of, child_count, item_at}
-use Rattle.item_definitions.specs.Position.{Range, between, behind}
+use Rattle.item_definitions.specs.Position.{Range, between, behind, path_before}
 use Rattle.item_definitions.specs.FlatParts.{flat_parts}
 use Rattle.operation_definitions.specs.Operation.{Fault, no_place, not_flat, into_itself, old_differs, not_neighbours, cell_state, too_large, too_deep, Operation, in_tree, in_cell, fresh, insert, move, rename, split, merge, marker}
 use Rattle.document_definitions.specs.Selection.{same_position, same_range}
@@ -17,13 +17,14 @@ use Rattle.edit_definitions.specs.declared.edit.Edit.{Edit}
 use Rattle.edit_definitions.specs.declared.edit.Edit.TheVariants.{InsertText, InsertElement, Remove, Move, SetAttribute, RemoveAttribute, Rename, Split, Merge, Wrap, Unwrap, AddMarker, UpdateMarker, RemoveMarker, Select, SelectionAttribute, InsertItems}
 use Rattle.edit_definitions.specs.declared.edit.Target.{Target}
 use Rattle.edit_definitions.specs.declared.edit.Target.TheVariants.{Range as InRange, Element as OfElement}
-use Rattle.edit_definitions.specs.Places.{is_there, is_range, are_in_one, is_element, path_before, is_between, is_known}
+use Rattle.edit_definitions.specs.Places.{is_there, is_range, are_in_one, is_element, is_between, is_known}
 use Rattle.edit_definitions.specs.Runs.{give_in, with_ids}
 use Rattle.edit_definitions.specs.Planned.{◌>>=◌, check, ids_left, count_in, insertion, empty_element, removals, moved_run, parts_of, given_to, name_of, renaming, unknown_in, known_names, marker_of, operations_of}
 use Rattle.edit_definitions.specs.Applied.{AreApplied, IsTold}
 use Rattle.edit_definitions.specs.Performed.{as_step, selecting, performed}
 use Rattle.edit_definitions.proofs.Works.{one-applied, insert-works, split-works, rename-works, merge-works}
-use Rattle.edit_definitions.proofs.Stay.{both, element-part}
+use Rattle.edit_definitions.proofs.Stay.{element-part}
+use Rattle.ck_base.proofs.Common.{first_and_second}
 use Rattle.edit_definitions.proofs.Moved.{moved-applied, wrapped-applied, unwrapped-applied}
 use Rattle.edit_definitions.proofs.Removed.{AreThere, AreFlat, AreForward, parts-there, removed-applied}
 use Rattle.edit_definitions.proofs.Attributed.{spots_of, spots-changed, spots-fit, spots-far, changes-applied}
@@ -131,8 +132,8 @@ planned registered number (Merge at) state sound =
     after-check state (is_there state.document.items at) (BadPosition number at) tt (λ _. check two (BadTarget number at) >>= (λ _. Ok (only ∷ [])))
     (λ there. after-check state two (BadTarget number at) tt (λ _. Ok (only ∷ []))
     (λ e.
-    let a = both first (is_element state.document.items at) e in
-    let b = both (nat_lt 0 (offset_of at)) (is_element state.document.items (path_before at)) a.0 in
+    let a = first_and_second first (is_element state.document.items at) e in
+    let b = first_and_second (nat_lt 0 (offset_of at)) (is_element state.document.items (path_before at)) a.0 in
     one-applied only state (merge-works state.document.items state.cells at there b.0 b.1 a.1)))
 planned registered number (Wrap start end name attributes) state sound =
     let run = move (in_tree start) (count_in start end) (in_tree (end ++ 0 ∷ [])) in

@@ -24,7 +24,8 @@ use Rattle.edit_definitions.specs.Planned.{count_in, removals}
 use Rattle.edit_definitions.specs.Applied.{AreApplied}
 use Rattle.edit_definitions.proofs.Alike.{one-more}
 use Rattle.edit_definitions.proofs.Works.{next-applied}
-use Rattle.edit_definitions.proofs.Stay.{there-place, place-there, both, flat-run}
+use Rattle.edit_definitions.proofs.Stay.{there-place, place-there, flat-run}
+use Rattle.ck_base.proofs.Common.{first_and_second}
 use Rattle.edit_definitions.proofs.Moved.{store-works}
 
 -- flat ranges of a list of items
@@ -216,8 +217,8 @@ pub record Parts (items : List Item) (start end : List ℕ) : Type 0 where
 
 pub parts-there : (items : List Item) (start end : List ℕ) → is_range items start end ≡ true → Parts items start end
 parts-there items start end e =
-    let a = both (is_there items start && is_there items end) (not_after start end) e in
-    let b = both (is_there items start) (is_there items end) a.0 in
+    let a = first_and_second (is_there items start && is_there items end) (not_after start end) e in
+    let b = first_and_second (is_there items start) (is_there items end) a.0 in
     let first = there-place items start b.0 in
     let last = there-place items end b.1 in
     let minimal = flat_parts-minimal items (between start end) (first, last, a.1) in

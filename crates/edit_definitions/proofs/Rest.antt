@@ -9,7 +9,8 @@ use Rattle.item_definitions.specs.Children.{parent_of, offset_of, child_count, a
 use Rattle.item_definitions.specs.Position.{Range, between, IsRange, not_after}
 use Rattle.item_definitions.specs.Shift.{stay, carry_range}
 use Rattle.operation_definitions.specs.Level.{give, given, with_key}
-use Rattle.operation_definitions.proofs.Levels.{replaced, three}
+use Rattle.operation_definitions.proofs.Levels.{replaced}
+use Rattle.ck_base.proofs.Common.{in_three}
 use Rattle.operation_definitions.proofs.Lifting.{map-some, then-some}
 use Rattle.operation_definitions.proofs.Names.{numbers_same}
 use Rattle.operation_definitions.proofs.Steps.{step-ok}
@@ -62,7 +63,7 @@ give-bare offset count key new xs ys run e =
     let c = drop (offset + count) xs in
     let put : given key new b ≡ r.new = ap (λ (o : Option (List Item × List Item)). option_map_or (λ (m : List Item × List Item). m.0) o []) r.gives in
     ap (map item_without_attributes) (sym r.result ∙ ap (λ n. a ++ (n ++ c)) (sym put)) ∙ parts a (given key new b) c
-    ∙ ap (λ m. map item_without_attributes a ++ (m ++ map item_without_attributes c)) (given-bare key new b) ∙ sym (parts a b c) ∙ ap (map item_without_attributes) (three offset count xs)
+    ∙ ap (λ m. map item_without_attributes a ++ (m ++ map item_without_attributes c)) (given-bare key new b) ∙ sym (parts a b c) ∙ ap (map item_without_attributes) (in_three offset count xs)
   where
     parts : (a b c : List Item) → map item_without_attributes (a ++ (b ++ c)) ≡ map item_without_attributes a ++ (map item_without_attributes b ++ map item_without_attributes c)
     parts a b c = map-append item_without_attributes a (b ++ c) ∙ ap (λ m. map item_without_attributes a ++ m) (map-append item_without_attributes b c)

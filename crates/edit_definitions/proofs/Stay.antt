@@ -2,6 +2,7 @@
 use Rattle.std.proofs.Common.{◌≡◌, ◌≢◌, ℕ, ◌+◌, ◌-◌, ◌≤◌, Bool, true, false, nat_le, nat_lt, ◌&&◌, ◌||◌, ◌==◌, if◌then◌else◌, List, [], ◌∷◌, ◌++◌, length, Option, Some, None, IsSomeAnd, option_map, Ok, refl, sym, ap, ◌∙◌, subst, arith}
 use Rattle.std.specs.Option.{option_map_or}
 use Rattle.std.proofs.lemmas.Bool.Decides.{nat_tests}
+use Rattle.ck_base.proofs.Common.{first_and_second}
 use Rattle.item_definitions.specs.Item.{Item, depth_of}
 use Rattle.item_definitions.specs.Children.{parent_of, offset_of, children_at, child_count, at}
 use Rattle.item_definitions.specs.Position.{between, behind, IsIn, IsRange, not_after, is_before}
@@ -53,7 +54,7 @@ there-from items parent offset level e room = place-there items (parent ++ offse
         (subst (λ n. n ≤ length level) (sym (offset_of-push parent offset)) room))
 
 -- what is left of a tree within the limits is within them
-pub left-limited : (path : List ℕ) (offset count : ℕ) (items left run : List Item) → IsLimited items → at path (take_out offset count) items ≡ Some (left, run) → IsLimited left
+left-limited : (path : List ℕ) (offset count : ℕ) (items left run : List Item) → IsLimited items → at path (take_out offset count) items ≡ Some (left, run) → IsLimited left
 left-limited path offset count items left run limits e =
     let fewer = take_out_counts path offset count items left run e in
     let flatter = at-depths (take_out offset count) (λ xs ys r f. replace-depths (λ run. Some ([], run)) (λ run new r g. none run new r g) offset count xs ys r f) path items left run e in
@@ -99,10 +100,6 @@ pub in-is-after : (path : List ℕ) (offset : ℕ) → not_after (path ++ offset
 in-is-after [] offset = refl
 in-is-after (step ∷ path) offset = not_after-same step (path ++ offset ∷ []) path ∙ in-is-after path offset
 
-pub both : (a b : Bool) → (a && b) ≡ true → (a ≡ true) × (b ≡ true)
-both true b e = (refl, e)
-both false b e = absurd cc
-
 -- a flat range that is there, as the run of its items
 pub record Flat (items : List Item) (start end : List ℕ) : Type 0 where
   pub level : List Item
@@ -142,9 +139,9 @@ flat-run items start end first last ordered one =
 
 pub flat : (items : List Item) (start end : List ℕ) → (is_range items start end && are_in_one start end) ≡ true → Flat items start end
 flat items start end e =
-    let a = both (is_range items start end) (are_in_one start end) e in
-    let b = both (is_there items start && is_there items end) (not_after start end) a.0 in
-    let c = both (is_there items start) (is_there items end) b.0 in
+    let a = first_and_second (is_range items start end) (are_in_one start end) e in
+    let b = first_and_second (is_there items start && is_there items end) (not_after start end) a.0 in
+    let c = first_and_second (is_there items start) (is_there items end) b.0 in
     flat-run items start end c.0 c.1 b.1 (same_numbers (parent_of start) (parent_of end) a.1)
 
 -- the element at a path as a flat range

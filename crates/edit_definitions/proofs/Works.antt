@@ -15,7 +15,8 @@ use Rattle.operation_definitions.proofs.Levels.{most}
 use Rattle.operation_definitions.proofs.Stays.{put_in-room}
 use Rattle.operation_definitions.proofs.Lifting.{then-some}
 use Rattle.document_definitions.specs.Document.{State, changed, all_applied}
-use Rattle.edit_definitions.specs.Places.{is_there, is_element, path_before}
+use Rattle.edit_definitions.specs.Places.{is_there, is_element}
+use Rattle.item_definitions.specs.Position.{path_before}
 use Rattle.edit_definitions.specs.Planned.{name_of}
 use Rattle.edit_definitions.specs.Applied.{AreApplied}
 use Rattle.edit_definitions.proofs.Alike.{next-free}

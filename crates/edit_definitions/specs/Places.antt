@@ -1,7 +1,8 @@
 -- The tests of an edit's places and names.
-use Rattle.std.specs.Prelude.{ℕ, ◌-◌, List, [], ◌∷◌, ◌++◌, Bool, false, not, ◌&&◌, nat_eq, nat_le, ◌==◌, Option, is_some}
+use Rattle.std.specs.Prelude.{ℕ, List, [], ◌∷◌, Bool, false, not, ◌&&◌, nat_eq, nat_le, Option, is_some}
 use Rattle.std.specs.Option.{option_map_or, option_and_then}
 use Rattle.std.specs.Cmp.Lexicographic.{pointwise}
+use Rattle.ck_base.specs.Name.{is_generic}
 use Rattle.item_definitions.specs.Item.{Item, inner}
 use Rattle.item_definitions.specs.Children.{parent_of, offset_of, child_count, item_at}
 use Rattle.item_definitions.specs.Position.{not_after}
@@ -27,18 +28,9 @@ element_at items path = option_and_then inner (item_at path items)
 abbrev pub is_element : List Item → List ℕ → Bool
 is_element items path = is_some (element_at items path)
 
--- the path of the item directly before a position
-abbrev pub path_before : List ℕ → List ℕ
-path_before position = parent_of position ++ (offset_of position - 1) ∷ []
-
 -- a position is strictly between two others, or in an item between them
 abbrev pub is_between : List ℕ → List ℕ → List ℕ → Bool
 is_between start end position = not (not_after position start) && not (not_after end position)
-
--- a name begins with `$`
-abbrev pub is_generic : List ℕ → Bool
-is_generic [] = false
-is_generic (first ∷ rest) = first == 36
 
 -- a name is that of an element that may be made
 abbrev pub is_known : (List ℕ → Bool) → List ℕ → Bool

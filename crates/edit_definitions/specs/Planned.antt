@@ -8,7 +8,7 @@ use Rattle.ck_base.specs.declared.faults.EditFault.TheVariants.{NotRegistered, B
 use Rattle.ck_base.specs.Entries.{value_of}
 use Rattle.item_definitions.specs.Item.{Item, character, element, none, Attributes}
 use Rattle.item_definitions.specs.Children.{offset_of, child_count, item_at, walk}
-use Rattle.item_definitions.specs.Position.{Range, between, behind}
+use Rattle.item_definitions.specs.Position.{Range, between, behind, path_before}
 use Rattle.item_definitions.specs.FlatParts.{flat_parts}
 use Rattle.operation_definitions.specs.Operation.{Operation, in_tree, in_cell, fresh, insert, move, rename, split, merge, marker}
 use Rattle.document_definitions.specs.Selection.{same_position, same_range}
@@ -17,11 +17,12 @@ use Rattle.edit_definitions.specs.declared.edit.Edit.{Edit}
 use Rattle.edit_definitions.specs.declared.edit.Edit.TheVariants.{InsertText, InsertElement, Remove, Move, SetAttribute, RemoveAttribute, Rename, Split, Merge, Wrap, Unwrap, AddMarker, UpdateMarker, RemoveMarker, Select, SelectionAttribute, InsertItems}
 use Rattle.edit_definitions.specs.declared.edit.Target.{Target}
 use Rattle.edit_definitions.specs.declared.edit.Target.TheVariants.{Range as InRange, Element as OfElement}
-use Rattle.edit_definitions.specs.Places.{is_there, is_range, are_in_one, is_element, path_before, is_between, is_known}
+use Rattle.edit_definitions.specs.Places.{is_there, is_range, are_in_one, is_element, is_between, is_known}
 use Rattle.edit_definitions.specs.Runs.{give_in, with_ids}
 
--- a step that may be refused, and what follows with its answer
 infixl 10 ◌>>=◌
+
+-- a step that may be refused, and what follows with its answer
 abbrev pub ◌>>=◌ : {A B : Type 0} → Result A EditFault → (A → Result B EditFault) → Result B EditFault
 Ok x >>= next = next x
 Err fault >>= next = Err fault

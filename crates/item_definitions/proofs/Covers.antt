@@ -4,6 +4,7 @@ use Rattle.std.specs.List.{list_any}
 use Rattle.std.proofs.lemmas.Bool.{false≢true}
 use Rattle.std.proofs.lemmas.Bool.Decides.{nat_tests}
 use Rattle.std.proofs.lemmas.List.Folds.{list_any-append}
+use Rattle.ck_base.proofs.Common.{and_either}
 use Rattle.item_definitions.specs.Position.{Range, between, not_after}
 use Rattle.item_definitions.specs.FlatParts.{under, run, next_offset, counts_under, parts_behind, parts_before, parts_between}
 use Rattle.item_definitions.proofs.Order.{not_after-cons, not_after-none, has, apart, inside}
@@ -38,10 +39,6 @@ pub not_after-push : (parent : List ℕ) (k : ℕ) → not_after (parent ++ k �
 not_after-push [] k = refl
 not_after-push (x ∷ parent) k = refl
 
-and-or : (a b c : Bool) → ((a && b) || (a && c)) ≡ (a && (b || c))
-and-or true b c = refl
-and-or false b c = refl
-
 under-here : (i k : ℕ) (parts : List Range) → any_has (map (under i) parts) [] k ≡ false
 under-here i k [] = refl
 under-here i k (part ∷ parts) =
@@ -51,7 +48,7 @@ under-below : (i y k : ℕ) (parent : List ℕ) (parts : List Range) → any_has
 under-below i y k parent [] = grind (arith, nat_tests)
 under-below i y k parent (part ∷ parts) =
     (λ t. (has-below i i y k part.start part.end parent ∙ inside i y (not_after part.start (parent ++ k ∷ [])) (not_after (parent ++ (k + 1) ∷ []) part.end)) t || under-below i y k parent parts t)
-    ∙ and-or (i == y) (has part.start part.end parent k) (any_has parts parent k)
+    ∙ and_either (i == y) (has part.start part.end parent k) (any_has parts parent k)
 
 run-here : (a b k : ℕ) → any_has (run a b) [] k ≡ (nat_le a k && nat_lt k b)
 run-here a b k = go (nat_lt a b) refl

@@ -3,6 +3,7 @@
 use Rattle.std.proofs.Common.{◌≡◌, ℕ, ◌+◌, ◌<◌, ◌≤◌, Bool, true, false, ◌&&◌, ◌||◌, nat_lt, ◌==◌, if◌then◌else◌, List, [], ◌∷◌, ◌++◌, map, Option, Some, None, IsSomeAnd, unwrap_or, ◌⊎◌, inl, inr, refl, sym, ap, ◌∙◌, subst, arith}
 use Rattle.std.proofs.lemmas.Bool.{false≢true}
 use Rattle.std.proofs.lemmas.Bool.Decides.{nat_tests}
+use Rattle.ck_base.proofs.Common.{both}
 use Rattle.item_definitions.specs.Children.{parent_of}
 use Rattle.item_definitions.specs.Position.{not_after}
 use Rattle.item_definitions.specs.FlatParts.{next_offset, counts_under}
@@ -216,9 +217,6 @@ witness-before counts (j ∷ q) home fits m =
 and-none : (a : Bool) → (a && false) ≡ false
 and-none true = refl
 and-none false = refl
-
-both : (a b : Bool) → a ≡ true → b ≡ true → (a && b) ≡ true
-both a b e f = grind (arith, nat_tests)
 
 -- what is behind the start in the item that it is in, or between that item and the end's
 good-front : (counts : List ℕ → Option ℕ) (i j : ℕ) (p q home : List ℕ) → i < j → Fits counts (j ∷ q)

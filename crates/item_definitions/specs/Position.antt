@@ -1,6 +1,6 @@
 -- Positions and ranges. A position is a path whose last number is an offset between the items of the parent that the others lead
 -- to. (After `Position` and `Range` of CKEditor 5's model.)
-use Rattle.std.specs.Prelude.{◌≡◌, ◌≢◌, ℕ, ◌+◌, ◌≤◌, ◌<◌, List, [], ◌∷◌, Bool, ◌&&◌, not, IsTrue, Option, IsSomeAnd}
+use Rattle.std.specs.Prelude.{◌≡◌, ◌≢◌, ℕ, ◌+◌, ◌-◌, ◌≤◌, ◌<◌, List, [], ◌∷◌, ◌++◌, Bool, ◌&&◌, not, IsTrue, Option, IsSomeAnd}
 use Rattle.std.specs.Ordering.{nat_cmp, is_le}
 use Rattle.std.specs.Cmp.Lexicographic.{slice_cmp}
 use Rattle.std.specs.declared.cmp.Ordering.{Ordering}
@@ -54,6 +54,10 @@ abbrev pub behind : List ℕ → List ℕ
 behind [] = []
 behind (offset ∷ []) = (offset + 1) ∷ []
 behind (index ∷ next ∷ path) = index ∷ behind (next ∷ path)
+
+-- the path of the item directly before a position in the same parent, where the position isn't at the parent's start
+abbrev pub path_before : List ℕ → List ℕ
+path_before position = parent_of position ++ (offset_of position - 1) ∷ []
 
 -- the item at a path is in a range: the position before it is not before the start, and the one behind it not behind the end
 abbrev pub holds : Range → List ℕ → Bool

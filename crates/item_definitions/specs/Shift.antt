@@ -3,7 +3,7 @@
 use Rattle.std.specs.Prelude.{◌≡◌, ℕ, ◌+◌, ◌-◌, ◌<◌, ◌≤◌, ◌^◌, List, [], ◌∷◌, ◌++◌, length, Bool, true, false, ◌&&◌, ◌||◌, nat_lt, nat_le, ◌==◌, if◌then◌else◌, All, Option, Some, None, unwrap_or}
 use Rattle.std.specs.Option.{option_map_or}
 use Rattle.item_definitions.specs.Children.{parent_of, offset_of}
-use Rattle.item_definitions.specs.Position.{Range, between, not_after, is_before}
+use Rattle.item_definitions.specs.Position.{Range, between, path_before, not_after, is_before}
 
 -- where a position goes that has content put in at it: to the next item, so behind that content, or to the previous one
 pub data Stick : Type 0 where
@@ -146,4 +146,4 @@ IsShift (insert at count) = Unit {0}
 IsShift (remove at count) = Unit {0}
 IsShift (move from count to) = Unit {0}
 IsShift (split at) = 2 ≤ length at
-IsShift (merge right target) = (0 < offset_of right) × (parent_of target ≡ parent_of right ++ (offset_of right - 1) ∷ [])
+IsShift (merge right target) = (0 < offset_of right) × (parent_of target ≡ path_before right)

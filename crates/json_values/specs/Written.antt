@@ -98,8 +98,8 @@ is_number (unsigned n) = true
 is_number (negative whole) = is_negative whole
 is_number (float x) = true
 
--- each text is UTF-8, and each number is one
 abbrev mutual
+  -- each text is UTF-8, and each number is one
   pub is_json : Data → Bool
   is_json null = true
   is_json (boolean truth) = true
@@ -108,11 +108,12 @@ abbrev mutual
   is_json (array items) = are_json items
   is_json (object members) = hold_json members
 
-  -- the same of each member of a list, and of each member of an object
+  -- the same of each member of a list
   pub are_json : Items → Bool
   are_json no_items = true
   are_json (item d items) = is_json d && are_json items
 
+  -- the same of each member of an object
   pub hold_json : Members → Bool
   hold_json no_members = true
   hold_json (member key d members) = is_json d && hold_json members

@@ -5,6 +5,7 @@ use Rattle.std.specs.List.{find, flat_map, enumerate_from}
 use Rattle.item_definitions.specs.Item.{Attributes, Item, Items, character, element, none, more, items_of, count_of, depth_of}
 use Rattle.item_definitions.specs.Children.{walk_item, walk_inner}
 use Rattle.item_definitions.specs.Position.{Range, holds}
+use Rattle.item_definitions.proofs.Sizes.{length-count}
 use Rattle.model_tree.specs.Parts.{TextParts}
 use Rattle.model_tree.specs.declared.items.Node.{Node}
 use Rattle.model_tree.specs.Nodes.{characters, items_at, items_in}
@@ -149,12 +150,6 @@ found_behind bounds index next left xs ys e h n =
 pub found_nowhere : (bounds : Bounds) (index : ℕ) (left : List Item) → left ≡ [] → None ≡ first_from bounds index left
 unfolding first_from
 found_nowhere bounds index left e = ap (λ items. first_passing (is_within bounds) (walk_inner [] index (items_of items))) (sym e)
-
--- how many items there are, and how deep they are
-pub long : (items : List Item) → length items ≤ count_of items
-long [] = omega arith
-long (character scalar attributes ∷ items) = omega (arith, long items)
-long (element id name attributes children ∷ items) = omega (arith, long items)
 
 pub dropped : (n : ℕ) (nodes : List Node) → depth_of (items_in (drop n nodes)) ≤ depth_of (items_in nodes)
 dropped zero nodes = omega arith

@@ -9,7 +9,7 @@ use Rattle.std.specs.List.Sorted.{IsSorted}
 use Rattle.std.specs.Map.{keys_of, lookup, remove_entry, set_value}
 use Rattle.std.specs.FinMap.Entries.{below_all, same_entries, find-put}
 use Rattle.ck_base.specs.Entries.{name_cmp, IsOrdered, value_of, with_value, without}
-use Rattle.ck_base.proofs.Common.{first, second}
+use Rattle.ck_base.proofs.Common.{first, second, less, both}
 use Rattle.ck_base.proofs.Ordered.{before_all, none_before, ordered_with_value}
 use Rattle.ck_base.proofs.Places.{same_name}
 use Rattle.item_definitions.specs.Position.{behind}
@@ -21,11 +21,6 @@ reversed Less e = refl
 reversed Equal e = cc
 reversed Greater e = cc
 
-less : (o : Ordering) → is_lt o ≡ true → o ≡ Less
-less Less e = refl
-less Equal e = cc
-less Greater e = cc
-
 neither : (o : Ordering) → is_eq o ≡ false → is_lt (ordering_reverse o) ≡ false → o ≡ Less
 neither Less e f = refl
 neither Equal e f = cc
@@ -35,10 +30,6 @@ turned : (o : Ordering) → is_eq (ordering_reverse o) ≡ is_eq o
 turned Less = refl
 turned Equal = refl
 turned Greater = refl
-
-both : (a b : Bool) → a ≡ true → b ≡ true → (a && b) ≡ true
-both true b p q = q
-both false b p q = p
 
 is_T : (b : Bool) → b ≡ true → T b
 is_T b e = subst T (sym e) tt

@@ -18,15 +18,15 @@ use Rattle.document_definitions.specs.Markers.{Markers}
 use Rattle.document_definitions.specs.Selection as selections
 use Rattle.document_definitions.specs.Selection.{Selection}
 use Rattle.document_definitions.specs.Document.{State, shift_of, markers_after, brought, raised, changed, applied}
-use Rattle.document_definitions.specs.Sound.{AreIn, IsSound, IsCarried}
+use Rattle.document_definitions.specs.Sound.{AreIn, IsSound, IsCarried, IsWelcome}
 use Rattle.document_definitions.proofs.Limits.{after-limited, carried_within}
 use Rattle.model_tree.proofs.Room.{put_in_count}
-use Rattle.model_tree.proofs.Shown.{length_count}
+use Rattle.item_definitions.proofs.Sizes.{length-count}
 use Rattle.document_definitions.proofs.Soundness.{keeps_soundness}
 use Rattle.model_ops.specs.declared.fault.OpFault.{OpFault}
 use Rattle.model_ops.specs.Effects.{refusal}
 use Rattle.model_doc.specs.Parts.{state_of}
-use Rattle.model_doc.specs.Conditions.{IsFew, IsWelcome}
+use Rattle.model_doc.specs.Conditions.{IsFew}
 
 checked : (b : Bool) (fault : Fault) (next : Unit {0} → Result Both Fault) (made : Both) → (check b fault >>= next) ≡ Ok made → b ≡ true
 checked true fault next made e = refl
@@ -47,7 +47,7 @@ few_items items cells (insert position new) made e =
     let count = put_in_count (parent_of position) (offset_of position) new items a.0.0 a.0.1 there in
     let same : count_of a.0.0 ≡ count_of made.0 = ap count_of (pair-first (a.0.0, cells) made a.2) in
     let limits = (after-limited items cells (insert position new) made e).0 in
-    let long = length_count new in
+    let long = length-count new in
     omega (arith, count, same, limits, long)
 few_items items cells (move from count to) made e = tt
 few_items items cells (attribute range key old new) made e = tt
@@ -98,7 +98,7 @@ pub made_sound : (operation : Operation) (state : State) (items : List Item) (ce
     → next_id ≡ raised state.document.next_id (brought operation) → IsSound (state_of items cells markers selection next_id)
 made_sound operation state items cells markers selection next_id sound welcome places e marked chosen above =
     subst IsSound (sym (λ i. state_of items cells (marked i) (chosen i) (above i)))
-    (keeps_soundness operation state (changed operation state (items, cells)) sound (record { places = places; fresh = welcome.fresh; known = welcome.known; ranged = welcome.ranged })
+    (keeps_soundness operation state (changed operation state (items, cells)) sound places welcome
     (ap (λ (r : Result Both Fault). r >>= (λ made. Ok (changed operation state made))) e))
 
 refused : (r : Result Both Fault) (next : Both → Result State Fault) (fault : OpFault) → refusal r ≡ Some fault → refusal (r >>= next) ≡ Some fault

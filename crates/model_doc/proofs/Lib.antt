@@ -5,4 +5,3 @@ pub mod Led
 pub mod Partway
 pub mod SameCells
 pub mod GoingBack
-pub mod Fitting

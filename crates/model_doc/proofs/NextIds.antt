@@ -1,6 +1,7 @@
 -- The next id, raised above the ids of items.
 use Rattle.std.proofs.Common.{◌≡◌, ℕ, zero, suc, ◌+◌, ◌<◌, ◌≤◌, max, List, [], ◌∷◌, ◌++◌, map, length, get_or, drop, refl, sym, ap, ◌∙◌, arith, append_assoc}
 use Rattle.std.proofs.lemmas.List.Sums.{fold-append}
+use Rattle.live_selection.proofs.Looking.{dropped}
 use Rattle.item_definitions.specs.Item.{Item, Attributes, character, items_of, depth_of}
 use Rattle.document_definitions.specs.Document.{ids_of, ids_of_item, ids_of_inner, raised}
 use Rattle.model_tree.specs.declared.items.Node.{Node}
@@ -46,12 +47,6 @@ next_node read nodes index node next above made same less found all e =
     ap (λ n. raised n (ids_of (items_in (drop (index + 1) nodes)))) e
     ∙ sym (ap (λ items. raised above (ids_of items)) (from_on read nodes index node same less found) ∙ raised-more above (items_at node) (items_in (drop (index + 1) nodes)))
     ∙ all
-
--- no node is deeper than all together
-dropped : (n : ℕ) (nodes : List Node) → depth_of (items_in (drop n nodes)) ≤ depth_of (items_in nodes)
-dropped zero nodes = omega arith
-dropped (suc n) [] = omega arith
-dropped (suc n) (x ∷ nodes) = omega (arith, dropped n nodes, depth-append (items_at x) (items_in nodes))
 
 pub node_flat : (read nodes : List Node) (index : ℕ) (node : Node) (items : List Item) → read ≡ nodes → index < length nodes → node ≡ get_or read index node → items_in nodes ≡ items
     → depth_of (items_at node) ≤ depth_of items

@@ -8,7 +8,8 @@ use Rattle.model_ops.specs.declared.fault.OpFault.{OpFault}
 use Rattle.model_ops.specs.Meant.{operation_of}
 use Rattle.model_ops.specs.Effects.{refusal}
 use Rattle.model_doc.specs.Records.{Done, done_on, recorded, records_of}
-use Rattle.model_doc.specs.Conditions.{IsWelcome, AreWelcome}
+use Rattle.model_doc.specs.Conditions.{AreWelcome}
+use Rattle.document_definitions.specs.Sound.{IsWelcome}
 
 -- those that are left lead from here to where all lead from the start, with the records that are there in front
 pub record Partway (all : List Operation) (start : State) (mark : ℕ) (rest : List Operation) (state : State) (records : List Done) (now : ℕ) : Type 0 where
@@ -25,9 +26,6 @@ module _ (all : List Operation) (start : State) (mark : ℕ) (rest left : List O
   here : Partway all start mark (operation ∷ left) state records now
   here = subst (λ r. Partway all start mark r state records now) is p
 
-  pub welcome_next : IsWelcome (operation_of operation) state
-  welcome_next = here.welcome.0
-
   pub next : (made : State) (more : List Done) (then : ℕ) → applied (operation_of operation) state ≡ Ok made → more ≡ records ++ done_on state (operation_of operation) made (now + 1) ∷ [] → then ≡ now + 1
       → Partway all start mark left made more then
   next made more then e one up = record {
@@ -41,19 +39,5 @@ module _ (all : List Operation) (start : State) (mark : ℕ) (rest left : List O
     welcome = here.welcome.1 made e;
   }
 
-  pub refused_next : (fault : OpFault) → refusal (applied (operation_of operation) state) ≡ Some fault → refusal (all_applied (map operation_of all) start) ≡ Some fault
-  refused_next fault e = sym (ap refusal here.same) ∙ go (applied (operation_of operation) state) e
-    where
-      go : (r : Result State Fault) → refusal r ≡ Some fault → refusal (r >>= all_applied (map operation_of left)) ≡ Some fault
-      go (Ok made) e = absurd cc
-      go (Err found) e = e
-
--- none is left
-pub all_same : (all : List Operation) (start : State) (mark : ℕ) (state : State) (records : List Done) (now : ℕ) → Partway all start mark [] state records now → all_applied (map operation_of all) start ≡ Ok state
-all_same all start mark state records now p = sym p.same
-
 pub all_written : (all : List Operation) (start : State) (mark : ℕ) (state : State) (records : List Done) (now : ℕ) → Partway all start mark [] state records now → records ≡ records_of (map operation_of all) start mark
 all_written all start mark state records now p = sym (append-nil records) ∙ p.written
-
-pub all_counted : (all : List Operation) (start : State) (mark : ℕ) (state : State) (records : List Done) (now : ℕ) → Partway all start mark [] state records now → now ≡ mark + length all
-all_counted all start mark state records now p = (let c = p.counted in omega (arith, c))

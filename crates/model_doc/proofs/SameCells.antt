@@ -2,12 +2,13 @@
 use Rattle.std.proofs.Common.{◌≡◌, ℕ, zero, suc, ◌-◌, ◌<◌, ◌≤◌, Bool, true, false, ◌&&◌, nat_eq, nat_lt, nat_le, not, ◌==◌, if◌then◌else◌, List, [], ◌∷◌, ◌++◌, length, set, ok_or, Result, Ok, Err, refl, sym, ap, ◌∙◌, subst, arith, length-set, length-append}
 use Rattle.std.specs.Cmp.Lexicographic.{pointwise}
 use Rattle.std.proofs.lemmas.Bool.Decides.{nat_tests}
+use Rattle.ck_base.proofs.Common.{first_and_second}
 use Rattle.item_definitions.specs.Item.{Item}
 use Rattle.item_definitions.specs.Children.{Change, parent_of, offset_of, at}
 use Rattle.item_definitions.specs.Shift.{carry_remove}
 use Rattle.operation_definitions.specs.Level.{put_in, take_out, give, rename_at, split_at, merge_at}
 use Rattle.operation_definitions.specs.Operation.{Operation, Fault, in_tree, in_cell, fresh, from_cell, insert, move, attribute, rename, split, merge, marker, no_place, not_flat, into_itself, old_differs, not_neighbours, cell_state, found_name}
-use Rattle.operation_definitions.specs.After.{◌>>=◌, check, after, effect, limited, in_cell_at, is_empty, is_free, fill, holds_count, shell_of, like, stands, is_in_run, have_value}
+use Rattle.operation_definitions.specs.After.{◌>>=◌, check, after, effect, limited, in_cell_at, is_empty, is_free, fill, holds_count, shell_of, like, room_at, is_in_run, have_value}
 use Rattle.operation_definitions.specs.Reversed.{IsLimited}
 use Rattle.operation_definitions.proofs.Simple.{State, limited-ok, after-effect, pair-first, pair-second}
 use Rattle.operation_definitions.proofs.Steps.{step}
@@ -80,9 +81,9 @@ module _ (c d : List (List Item)) (same : (n : ℕ) → in_cell_at d n ≡ in_ce
     effect-same (move (in_tree from) count (in_tree to)) e h =
         let target = carry_remove from count to in
         let last : List (List Item) → List Item × List Item → Result State Fault = λ cells taken. ok_or (at (parent_of target) (put_in (offset_of target) taken.1) taken.0) no_place >>= (λ m. Ok (m.0, cells)) in
-        let next : List (List Item) → List Item × List Item → Result State Fault = λ cells taken. ok_or (stands items to) no_place >>= (λ _. check (not (is_in_run from count to)) into_itself >>= (λ _. last cells taken)) in
+        let next : List (List Item) → List Item × List Item → Result State Fault = λ cells taken. ok_or (room_at items to) no_place >>= (λ _. check (not (is_in_run from count to)) into_itself >>= (λ _. last cells taken)) in
         let p = par (ok_or (at (parent_of from) (take_out (offset_of from) count) items) no_place) (next c) (next d) m1 m2 e h in
-        let q = par (ok_or (stands items to) no_place) (λ _. check (not (is_in_run from count to)) into_itself >>= (λ _. last c p.0)) (λ _. check (not (is_in_run from count to)) into_itself >>= (λ _. last d p.0)) m1 m2 p.1 p.2 in
+        let q = par (ok_or (room_at items to) no_place) (λ _. check (not (is_in_run from count to)) into_itself >>= (λ _. last c p.0)) (λ _. check (not (is_in_run from count to)) into_itself >>= (λ _. last d p.0)) m1 m2 p.1 p.2 in
         let r = par (check (not (is_in_run from count to)) into_itself) (λ _. last c p.0) (λ _. last d p.0) m1 m2 q.1 q.2 in
         let s = par (ok_or (at (parent_of target) (put_in (offset_of target) p.0.1) p.0.0) no_place) (λ (m : List Item × Unit {0}). Ok (m.0, c)) (λ (m : List Item × Unit {0}). Ok (m.0, d)) m1 m2 r.1 r.2 in
         finish s.0.0 c d m1 m2 s.1 s.2 same (omega arith)
@@ -129,8 +130,8 @@ module _ (c d : List (List Item)) (same : (n : ℕ) → in_cell_at d n ≡ in_ce
         let last : List (List Item) → List Item × Item → Result State Fault = λ cells m. Ok (m.0, set cells n []) in
         let next : List (List Item) → Item → Result State Fault = λ cells shell. ok_or (at above (change shell) items) no_place >>= last cells in
         let first : List (List Item) → List Item → Result State Fault = λ cells held. ok_or (shell_of held) (cell_state n) >>= next cells in
-        let p = par (check (nat_le 2 (length position)) no_place) (λ _. ok_or (stands items position) no_place >>= (λ _. first c (in_cell_at c n))) (λ _. ok_or (stands items position) no_place >>= (λ _. first d (in_cell_at d n))) m1 m2 e h in
-        let q = par (ok_or (stands items position) no_place) (λ _. first c (in_cell_at c n)) (λ _. first d (in_cell_at d n)) m1 m2 p.1 p.2 in
+        let p = par (check (nat_le 2 (length position)) no_place) (λ _. ok_or (room_at items position) no_place >>= (λ _. first c (in_cell_at c n))) (λ _. ok_or (room_at items position) no_place >>= (λ _. first d (in_cell_at d n))) m1 m2 e h in
+        let q = par (ok_or (room_at items position) no_place) (λ _. first c (in_cell_at c n)) (λ _. first d (in_cell_at d n)) m1 m2 p.1 p.2 in
         let there : first d (in_cell_at c n) ≡ Ok m2 = subst (λ held. first d held ≡ Ok m2) (same n) q.2 in
         let r = par (ok_or (shell_of (in_cell_at c n)) (cell_state n)) (next c) (next d) m1 m2 q.1 there in
         let s = par (ok_or (at above (change r.0) items) no_place) (last c) (last d) m1 m2 r.1 r.2 in
@@ -163,10 +164,6 @@ goes-check t u fault f g made e more k = (let p = passed t fault f made e in sub
 ends : (x : List Item) (u v : List (List Item)) (made : State) → ◌≡◌ {A = Result State Fault} (Ok (x, u)) (Ok made) → There (Ok (x, v)) made
 ends x u v made e = ((x, v), refl, pair-first (x, u) made e)
 
-both-true : (a b : Bool) → (a && b) ≡ true → (a ≡ true) × (b ≡ true)
-both-true true b e = (refl, e)
-both-true false b e = absurd cc
-
 and-true : (a b : Bool) → a ≡ true → b ≡ true → (a && b) ≡ true
 and-true true b e f = f
 and-true false b e f = absurd cc
@@ -189,7 +186,7 @@ module _ (c d : List (List Item)) (same : (n : ℕ) → in_cell_at d n ≡ in_ce
 
   holds-more : (n count : ℕ) → holds_count c n count ≡ true → holds_count d n count ≡ true
   holds-more n count e =
-      let p = both-true (nat_lt n (length c)) (length (in_cell_at c n) == count) e in
+      let p = first_and_second (nat_lt n (length c)) (length (in_cell_at c n) == count) e in
       let less = true-less n (length c) p.0 in
       and-true (nat_lt n (length d)) (length (in_cell_at d n) == count) (less-true n (length d) (omega (arith, less, long))) (ap (λ (cell : List Item). length cell == count) (same n) ∙ p.1)
 
@@ -200,9 +197,9 @@ module _ (c d : List (List Item)) (same : (n : ℕ) → in_cell_at d n ≡ in_ce
     effect-there (move (in_tree from) count (in_tree to)) e =
         let target = carry_remove from count to in
         let last : List (List Item) → List Item × List Item → Result State Fault = λ cells taken. ok_or (at (parent_of target) (put_in (offset_of target) taken.1) taken.0) no_place >>= (λ m. Ok (m.0, cells)) in
-        let next : List (List Item) → List Item × List Item → Result State Fault = λ cells taken. ok_or (stands items to) no_place >>= (λ _. check (not (is_in_run from count to)) into_itself >>= (λ _. last cells taken)) in
+        let next : List (List Item) → List Item × List Item → Result State Fault = λ cells taken. ok_or (room_at items to) no_place >>= (λ _. check (not (is_in_run from count to)) into_itself >>= (λ _. last cells taken)) in
         goes (ok_or (at (parent_of from) (take_out (offset_of from) count) items) no_place) (next c) (next d) made e (λ taken f.
-        goes (ok_or (stands items to) no_place) (λ _. check (not (is_in_run from count to)) into_itself >>= (λ _. last c taken)) (λ _. check (not (is_in_run from count to)) into_itself >>= (λ _. last d taken)) made f (λ _ g.
+        goes (ok_or (room_at items to) no_place) (λ _. check (not (is_in_run from count to)) into_itself >>= (λ _. last c taken)) (λ _. check (not (is_in_run from count to)) into_itself >>= (λ _. last d taken)) made f (λ _ g.
         goes (check (not (is_in_run from count to)) into_itself) (λ _. last c taken) (λ _. last d taken) made g (λ _ h.
         goes (ok_or (at (parent_of target) (put_in (offset_of target) taken.1) taken.0) no_place) (λ (m : List Item × Unit {0}). Ok (m.0, c)) (λ (m : List Item × Unit {0}). Ok (m.0, d)) made h (λ m k. ends m.0 c d made k))))
     effect-there (move (in_tree from) count (in_cell n)) e =
@@ -242,8 +239,8 @@ module _ (c d : List (List Item)) (same : (n : ℕ) → in_cell_at d n ≡ in_ce
         let last : List (List Item) → List Item × Item → Result State Fault = λ cells m. Ok (m.0, set cells n []) in
         let next : List (List Item) → Item → Result State Fault = λ cells shell. ok_or (at above (change shell) items) no_place >>= last cells in
         let first : List (List Item) → List Item → Result State Fault = λ cells held. ok_or (shell_of held) (cell_state n) >>= next cells in
-        goes (check (nat_le 2 (length position)) no_place) (λ _. ok_or (stands items position) no_place >>= (λ _. first c (in_cell_at c n))) (λ _. ok_or (stands items position) no_place >>= (λ _. first d (in_cell_at d n))) made e (λ _ f.
-        goes (ok_or (stands items position) no_place) (λ _. first c (in_cell_at c n)) (λ _. first d (in_cell_at d n)) made f (λ _ g.
+        goes (check (nat_le 2 (length position)) no_place) (λ _. ok_or (room_at items position) no_place >>= (λ _. first c (in_cell_at c n))) (λ _. ok_or (room_at items position) no_place >>= (λ _. first d (in_cell_at d n))) made e (λ _ f.
+        goes (ok_or (room_at items position) no_place) (λ _. first c (in_cell_at c n)) (λ _. first d (in_cell_at d n)) made f (λ _ g.
         subst (λ (held : List Item). There (first d held) made) (sym (same n))
         (goes (ok_or (shell_of (in_cell_at c n)) (cell_state n)) (next c) (next d) made g (λ shell h.
         goes (ok_or (at above (change shell) items) no_place) (last c) (last d) made h (λ m k. ends m.0 (set c n []) (set d n []) made k)))))

@@ -1,18 +1,10 @@
 -- What operations on a document may bring.
-use Rattle.std.specs.Prelude.{◌≡◌, ◌<◌, ◌≤◌, ◌^◌, List, [], ◌∷◌, length, ◌++◌, All, Ok, nat_eq}
-use Rattle.std.specs.List.{IsDistinct}
+use Rattle.std.specs.Prelude.{◌≡◌, ◌<◌, ◌^◌, List, [], ◌∷◌, length, Ok}
 use Rattle.operation_definitions.specs.Operation.{Operation, insert}
-use Rattle.document_definitions.specs.Document.{State, brought, applied}
-use Rattle.document_definitions.specs.Sound.{ids_in, IsMarkerIn}
+use Rattle.document_definitions.specs.Document.{State, applied}
+use Rattle.document_definitions.specs.Sound.{IsWelcome}
 
--- the ids that an operation brings are new in the tree and the cells, distinct, and from 1 to 2^63 - 1, and the range of a marker is in the
--- tree
-pub record IsWelcome (operation : Operation) (state : State) : Type 0 where
-  pub fresh : IsDistinct nat_eq (brought operation ++ ids_in state.document.items state.cells)
-  pub known : All (λ id. (1 ≤ id) × (id < 2 ^ 63)) (brought operation)
-  pub ranged : IsMarkerIn state.document.items operation
-
--- so is each of some operations in the state that those before it make
+-- each of some operations is welcome in the state that those before it make
 abbrev pub AreWelcome : List Operation → State → Type 0
 AreWelcome [] state = Unit {0}
 AreWelcome (operation ∷ operations) state =

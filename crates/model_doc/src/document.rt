@@ -5,12 +5,12 @@ ghost use Rattle.item_definitions.specs.Children.{child_count};
 ghost use Rattle.item_definitions.specs.Position.{IsRange};
 ghost use Rattle.document_definitions.specs.Document.{State, applied, all_applied, with_selection};
 ghost use Rattle.document_definitions.specs.Selection.{selected, with_override};
-ghost use Rattle.document_definitions.specs.Sound.{IsSound};
+ghost use Rattle.document_definitions.specs.Sound.{IsSound, IsWelcome};
 ghost use Rattle.model_ops.specs.Meant.{operation_of};
 ghost use Rattle.model_ops.specs.Effects.{refusal};
 ghost use Rattle.model_doc.specs.Held.{Moment, empty, in_state, keeping, letting_go, returned};
 ghost use Rattle.model_doc.specs.Records.{done_on, records_of, Leads, IsAgain};
-ghost use Rattle.model_doc.specs.Conditions.{IsWelcome, AreWelcome};
+ghost use Rattle.model_doc.specs.Conditions.{AreWelcome};
 
 use crate::batch::Batch;
 use crate::body::Body;

@@ -6,11 +6,11 @@ use Rattle.std.proofs.lemmas.Bool.Decides.{nat_tests}
 use Rattle.std.proofs.lemmas.List.Elements.{All-cons}
 use Rattle.item_definitions.specs.Item.{Item, inner, item_count, count_of, item_depth, depth_of}
 use Rattle.item_definitions.specs.Children.{parent_of, offset_of, children_at, at, at_index, in_item}
-use Rattle.item_definitions.specs.Position.{behind}
+use Rattle.item_definitions.specs.Position.{behind, path_before}
 use Rattle.item_definitions.specs.Shift.{IsWithinLimits, to_next, carry_insert, carry_remove}
 use Rattle.operation_definitions.specs.Level.{put_in, take_out, one_item, split_item, split_at, merge_at}
 use Rattle.operation_definitions.specs.Operation.{Fault, Operation, in_tree, in_cell, fresh, from_cell, insert, move, attribute, rename, split, merge, marker, no_place, into_itself, not_neighbours, cell_state}
-use Rattle.operation_definitions.specs.After.{◌>>=◌, check, effect, after, stands, shell_of, in_cell_at, is_free, fill, holds_count, is_in_run, like}
+use Rattle.operation_definitions.specs.After.{◌>>=◌, check, effect, after, room_at, shell_of, in_cell_at, is_free, fill, holds_count, is_in_run, like}
 use Rattle.operation_definitions.specs.Back.{back}
 use Rattle.operation_definitions.proofs.Lifting.{map-some, at-also, at-back, at-push}
 use Rattle.operation_definitions.proofs.Levels.{replaced, take_out-back, item-there, split-some}
@@ -22,12 +22,10 @@ use Rattle.operation_definitions.proofs.Simple.{State, after-effect, pair-first,
 use Rattle.operation_definitions.proofs.Cells.{holds-long}
 use Rattle.model_tree.specs.Limits.{IsTree}
 use Rattle.model_tree.proofs.AtPaths.{inside, at-through, set_in, with_in}
-use Rattle.item_definitions.proofs.Sizes.{within-item}
+use Rattle.item_definitions.proofs.Sizes.{within-item, length-count}
 use Rattle.model_tree.proofs.Limited.{take_out_counts, take_out_stays}
 use Rattle.model_tree.proofs.Room.{put_in_count}
 use Rattle.model_tree.proofs.Removed.{place_there, carried_in}
-use Rattle.model_tree.proofs.Shown.{length_count}
-use Rattle.model_ops.specs.Effects.{left_of}
 use Rattle.model_ops.specs.Limits.{IsWithin, SplitsElement}
 use Rattle.model_ops.proofs.Limiting.{after_tree}
 use Rattle.model_ops.proofs.Merging.{left-count, end-joined}
@@ -42,16 +40,16 @@ within-list (x ∷ xs) zero item items e h =
 within-list (x ∷ xs) (suc index) item items e h = (let w = within-list xs index item items e h in (omega (arith, w.0), omega (arith, w.1), omega (arith, w.2)))
 
 -- the numbers of a position that is there, and how many there are
-bounds : (position : List ℕ) (xs : List Item) → count_of xs < 2 ^ 32 → Is (stands xs position) → (length position ≤ depth_of xs + 1) × All (λ n. n < 2 ^ 32) position
+bounds : (position : List ℕ) (xs : List Item) → count_of xs < 2 ^ 32 → Is (room_at xs position) → (length position ≤ depth_of xs + 1) × All (λ n. n < 2 ^ 32) position
 bounds [] xs few h = (omega arith, λ k d less. absurd (omega arith))
-bounds (o ∷ []) xs few h = (omega arith, All-cons (λ n. n < 2 ^ 32) o [] (omega (arith, put_in-fits o [] xs h, length_count xs, few)) (λ k d less. absurd (omega arith)))
+bounds (o ∷ []) xs few h = (omega arith, All-cons (λ n. n < 2 ^ 32) o [] (omega (arith, put_in-fits o [] xs h, length-count xs, few)) (λ k d less. absurd (omega arith)))
 bounds (i ∷ next ∷ path) xs few h =
     let a = inside xs i (at (parent_of (next ∷ path)) (put_in (offset_of (next ∷ path)) [])) h.0.0 tt h.1 in
     let w = within-list xs i a.item a.children a.there a.here in
     let rest = bounds (next ∷ path) a.children (omega (arith, w.1, few)) ((a.new, tt), a.made) in
-    (omega (arith, w.0, rest.0), All-cons (λ n. n < 2 ^ 32) i (next ∷ path) (omega (arith, w.2, length_count xs, few)) rest.1)
+    (omega (arith, w.0, rest.0), All-cons (λ n. n < 2 ^ 32) i (next ∷ path) (omega (arith, w.2, length-count xs, few)) rest.1)
 
-place-within : (xs : List Item) (position : List ℕ) → IsTree xs → Is (stands xs position) → IsWithinLimits position
+place-within : (xs : List Item) (position : List ℕ) → IsTree xs → Is (room_at xs position) → IsWithinLimits position
 place-within xs position tree h = (let b = bounds position xs tree.few h in (omega (arith, b.0, tree.flat), b.1))
 
 -- where items are put in, a run is taken out, or an element is split, there is a place
@@ -91,7 +89,7 @@ module _ (items : List Item) (cells : List (List Item)) (made : State) (tree : I
       let same : a.0.0 ≡ made.0 = pair-first (a.0.0, cells) made a.2 in
       let counts = put_in_count (parent_of position) (offset_of position) new items a.0.0 a.0.1 there in (
         place-within items position tree (at-also change (put_in (offset_of position) []) (place-put (offset_of position) new) (parent_of position) items a.0.0 a.0.1 there),
-        omega (arith, counts, ap count_of same, new_tree.few, length_count new),
+        omega (arith, counts, ap count_of same, new_tree.few, length-count new),
       )
 
   -- the run that a move takes out of the tree
@@ -99,7 +97,7 @@ module _ (items : List Item) (cells : List (List Item)) (made : State) (tree : I
   run-within from count left run taken =
       let counts = take_out_counts (parent_of from) (offset_of from) count items left run taken in (
         place-within items from tree (at-also (take_out (offset_of from) count) (put_in (offset_of from) []) (place-run (offset_of from) count) (parent_of from) items left run taken),
-        omega (arith, counts, run-long items left run from count taken, tree.few, length_count run),
+        omega (arith, counts, run-long items left run from count taken, tree.few, length-count run),
       )
 
   store-within : (from : List ℕ) (count number : ℕ) → effect items cells (move (in_tree from) count (in_cell number)) ≡ Ok made → IsWithinLimits from × (count < 2 ^ 32)
@@ -120,7 +118,7 @@ module _ (items : List Item) (cells : List (List Item)) (made : State) (tree : I
       let same : b.0.0 ≡ made.0 = pair-first (b.0.0, set cells number []) made b.2 in
       let counts = put_in_count (parent_of to) (offset_of to) held items b.0.0 b.0.1 there in (
         place-within items to tree (at-also change (put_in (offset_of to) []) (place-put (offset_of to) held) (parent_of to) items b.0.0 b.0.1 there),
-        omega (arith, counts, ap count_of same, new_tree.few, length_count held, long),
+        omega (arith, counts, ap count_of same, new_tree.few, length-count held, long),
       )
 
   move-within : (from : List ℕ) (count : ℕ) (to : List ℕ) → effect items cells (move (in_tree from) count (in_tree to)) ≡ Ok made
@@ -128,21 +126,21 @@ module _ (items : List Item) (cells : List (List Item)) (made : State) (tree : I
   move-within from count to e =
       let target = carry_remove from count to in
       let last : List Item × List Item → Result State Fault = λ taken. ok_or (at (parent_of target) (put_in (offset_of target) taken.1) taken.0) no_place >>= (λ m. Ok (m.0, cells)) in
-      let next : List Item × List Item → Result State Fault = λ taken. ok_or (stands items to) no_place >>= (λ _. check (not (is_in_run from count to)) into_itself >>= (λ _. last taken)) in
+      let next : List Item × List Item → Result State Fault = λ taken. ok_or (room_at items to) no_place >>= (λ _. check (not (is_in_run from count to)) into_itself >>= (λ _. last taken)) in
       let a = step-ok (ok_or (at (parent_of from) (take_out (offset_of from) count) items) no_place) next made e in
       let left = a.0.0 in
       let run = a.0.1 in
       let taken = ok_or-some (at (parent_of from) (take_out (offset_of from) count) items) no_place a.0 a.1 in
-      let b = step-ok (ok_or (stands items to) no_place) (λ _. check (not (is_in_run from count to)) into_itself >>= (λ _. last (left, run))) made a.2 in
-      let there = ok_or-some (stands items to) no_place b.0 b.1 in
+      let b = step-ok (ok_or (room_at items to) no_place) (λ _. check (not (is_in_run from count to)) into_itself >>= (λ _. last (left, run))) made a.2 in
+      let there = ok_or-some (room_at items to) no_place b.0 b.1 in
       let c = step-ok (check (not (is_in_run from count to)) into_itself) (λ _. last (left, run)) made b.2 in
       let d = step-ok (ok_or (at (parent_of target) (put_in (offset_of target) run) left) no_place) (λ m. Ok (m.0, cells)) made c.2 in
       let put_there = ok_or-some (at (parent_of target) (put_in (offset_of target) run) left) no_place d.0 d.1 in
       let whole : d.0.0 ≡ made.0 = pair-first (d.0.0, cells) made d.2 in
       let put_again = at-back (take_out (offset_of from) count) (put_in (offset_of from) run) run tt (take_out-back (offset_of from) count run) (parent_of from) items left taken in
       let stood = at-also (put_in (offset_of from) run) (put_in (offset_of from) []) (place-put (offset_of from) run) (parent_of from) left items tt put_again in
-      let stays_there = subst (λ n. Is (stands made.0 (put (parent_of target) (offset_of target) n from))) (run-long items left run from count taken)
-      (subst (λ t. Is (stands t (put (parent_of target) (offset_of target) (length run) from))) whole
+      let stays_there = subst (λ n. Is (room_at made.0 (put (parent_of target) (offset_of target) n from))) (run-long items left run from count taken)
+      (subst (λ t. Is (room_at t (put (parent_of target) (offset_of target) (length run) from))) whole
       (stays (parent_of target) (offset_of target) run left d.0.0 from put_there stood)) in (
         place-within left target (take_out_stays (parent_of from) (offset_of from) count items left run taken tree) (carried_in (parent_of from) (offset_of from) count items left run to taken (b.0, there)),
         (run-within from count left run taken).1,
@@ -181,9 +179,9 @@ module _ (items : List Item) (cells : List (List Item)) (made : State) (tree : I
       let last : List Item × Item → Result State Fault = λ m. Ok (m.0, set cells number []) in
       let next : Item → Result State Fault = λ shell. ok_or (whole shell) no_place >>= last in
       let first : List Item × Unit {0} → Result State Fault = λ _. ok_or (shell_of (in_cell_at cells number)) (cell_state number) >>= next in
-      let a = step-ok (check (nat_le 2 (length position)) no_place) (λ _. ok_or (stands items position) no_place >>= first) made e in
+      let a = step-ok (check (nat_le 2 (length position)) no_place) (λ _. ok_or (room_at items position) no_place >>= first) made e in
       let long = two (length position) (check-true (nat_le 2 (length position)) no_place a.0 a.1) in
-      let b = step-ok (ok_or (stands items position) no_place) first made a.2 in
+      let b = step-ok (ok_or (room_at items position) no_place) first made a.2 in
       let c = step-ok (ok_or (shell_of (in_cell_at cells number)) (cell_state number)) next made b.2 in
       let d = step-ok (ok_or (whole c.0) no_place) last made c.2 in
       (long, halves-within position (λ _. c.0) d.0.0 d.0.1 long (ok_or-some (whole c.0) no_place d.0 d.1))
@@ -198,11 +196,11 @@ module _ (items : List Item) (cells : List (List Item)) (made : State) (tree : I
       let count = b.0.1.1 in
       let c = step-ok (check (pointwise nat_eq target (parent_of right ++ (offset_of right - 1) ∷ count ∷ [])) not_neighbours) (λ _. last b.0) made b.2 in
       let known = same_numbers target (parent_of right ++ (offset_of right - 1) ∷ count ∷ []) (check-true (pointwise nat_eq target (parent_of right ++ (offset_of right - 1) ∷ count ∷ [])) not_neighbours c.0 c.1) in
-      let kids = map-some length (children_at (left_of right) items) count (left-count right target number items cells b.0 (ok_or-some whole not_neighbours b.0 b.1)) in
-      let joined : target ≡ left_of right ++ count ∷ [] = known ∙ end-joined right target number items cells (parent_of right) (offset_of right - 1) count in
+      let kids = map-some length (children_at (path_before right) items) count (left-count right target number items cells b.0 (ok_or-some whole not_neighbours b.0 b.1)) in
+      let joined : target ≡ path_before right ++ count ∷ [] = known ∙ end-joined right target number items cells (parent_of right) (offset_of right - 1) count in
       place-within items target tree
-      (subst (λ p. Is (stands items p)) (sym joined)
-      (some-is (stands items (left_of right ++ count ∷ [])) (place_there (left_of right) count items kids.0 (sym kids.1) (omega (arith, kids.2)))))
+      (subst (λ p. Is (room_at items p)) (sym joined)
+      (some-is (room_at items (path_before right ++ count ∷ [])) (place_there (path_before right) count items kids.0 (sym kids.1) (omega (arith, kids.2)))))
 
   back-within : (operation : Operation) → effect items cells operation ≡ Ok made → (cell : ℕ) → SplitsElement operation × IsWithin (back operation cell)
   back-within (insert position new) e cell = (let w = insert-within position new e in (tt, (w.0, w.1, tt)))

@@ -14,7 +14,8 @@ use Rattle.operation_definitions.proofs.Names.{same_numbers, numbers_same}
 use Rattle.model_tree.specs.Limits.{merged}
 use Rattle.model_tree.proofs.AtPaths.{through}
 use Rattle.model_ops.specs.declared.fault.OpFault.TheVariants.{NotNeighbours, CellState}
-use Rattle.model_ops.specs.Effects.{State, refusal, left_of, IsLeftEnd}
+use Rattle.model_ops.specs.Effects.{State, refusal, IsLeftEnd}
+use Rattle.item_definitions.specs.Position.{path_before}
 use Rattle.model_ops.proofs.Renamed.{changed_level}
 
 -- the items of the element that a path goes on to
@@ -55,7 +56,7 @@ module _ (right target : List ℕ) (number : ℕ) (xs : List Item) (cells : List
   made_at = at (parent_of right) (merge_at (offset_of right)) xs
 
   -- an element that is merged has so many items as the merge tells
-  pub left-count : (made : List Item × (Item × ℕ)) → made_at ≡ Some made → child_count xs (left_of right) ≡ Some made.1.1
+  pub left-count : (made : List Item × (Item × ℕ)) → made_at ≡ Some made → child_count xs (path_before right) ≡ Some made.1.1
   left-count made e =
       let d = changed_level (merge_at (offset_of right)) (parent_of right) xs made.0 made.1 e in
       let h = replaced (offset_of right - 1) 2 merge_items d.level d.new made.1 d.made in
@@ -84,11 +85,11 @@ module _ (right target : List ℕ) (number : ℕ) (xs : List Item) (cells : List
   end-joined [] index count = refl
   end-joined (x ∷ front) index count = ap (λ rest. x ∷ rest) (end-joined front index count)
 
-  end-parent : (count : ℕ) → target ≡ end_of count → parent_of target ≡ left_of right
-  end-parent count e = ap parent_of (e ∙ end-joined (parent_of right) (offset_of right - 1) count) ∙ parent_of-push (left_of right) count
+  end-parent : (count : ℕ) → target ≡ end_of count → parent_of target ≡ path_before right
+  end-parent count e = ap parent_of (e ∙ end-joined (parent_of right) (offset_of right - 1) count) ∙ parent_of-push (path_before right) count
 
   end-offset : (count : ℕ) → target ≡ end_of count → offset_of target ≡ count
-  end-offset count e = ap offset_of (e ∙ end-joined (parent_of right) (offset_of right - 1) count) ∙ offset_of-push (left_of right) count
+  end-offset count e = ap offset_of (e ∙ end-joined (parent_of right) (offset_of right - 1) count) ∙ offset_of-push (path_before right) count
 
   -- the target isn't the end of the element before
   pub merge_apart : (IsLeftEnd right target xs → ⊥) → refusal (effect xs cells (merge right target number)) ≡ Some NotNeighbours
@@ -177,9 +178,6 @@ module _ (right target above parent left : List ℕ) (before index count : ℕ) 
   left_other differ end =
       let same : before ≡ offset_of right - 1 = sym (offset_of-push above before) ∙ ap offset_of (sym l ∙ p ∙ end.before) ∙ offset_of-push (parent_of right) (offset_of right - 1) in
       differ (omega (arith, same, right-index, end.second))
-
-  pub left_nowhere : None ≡ children_at left xs → IsLeftEnd right target xs → ⊥
-  left_nowhere e end = (let f : None ≡ Some (offset_of target) = ap (option_map length) e ∙ ap (child_count xs) p ∙ end.end in cc)
 
   module _ (same : above ≡ parent) (next : before + 1 ≡ index) (level : List Item) (there : Some level ≡ children_at left xs) where
     counted : child_count xs (parent_of target) ≡ Some (length level)

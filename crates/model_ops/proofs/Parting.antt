@@ -6,7 +6,7 @@ use Rattle.item_definitions.specs.Children.{parent_of, offset_of, children_at, a
 use Rattle.operation_definitions.specs.Level.{split_at}
 use Rattle.operation_definitions.specs.Operation as meant
 use Rattle.operation_definitions.specs.Operation.{split, from_cell, no_place, cell_state}
-use Rattle.operation_definitions.specs.After.{◌>>=◌, check, effect, stands, shell_of, in_cell_at, fill}
+use Rattle.operation_definitions.specs.After.{◌>>=◌, check, effect, room_at, shell_of, in_cell_at, fill}
 use Rattle.operation_definitions.proofs.Levels.{most}
 use Rattle.model_tree.specs.Places.{Gives}
 use Rattle.model_tree.specs.Limits.{changed, split_path, split_with}
@@ -60,34 +60,16 @@ module _ (position path : List ℕ) (offset number : ℕ) (xs : List Item) (cell
   abbrev steps : Bool → Option (List Item × Unit {0}) → Option Item → Result State meant.Fault
   steps long there shell = check long no_place >>= (λ _. ok_or there no_place >>= (λ _. held shell))
 
-  -- the parent is the root
-  pub split_root : path ≡ [] → refusal (effect xs cells (split position (from_cell number))) ≡ Some NoPlace
-  split_root root = ap (λ t. refusal (steps t (stands xs position) (shell_of (in_cell_at cells number)))) (short position (sym above ∙ root))
-    where
-      short : (position : List ℕ) → parent_of position ≡ [] → nat_le 2 (length position) ≡ false
-      short [] e = refl
-      short (x ∷ []) e = refl
-      short (x ∷ y ∷ rest) e = absurd cc
-
   long : (position : List ℕ) → parent_of position ≢ [] → nat_le 2 (length position) ≡ true
   long [] some = absurd (some refl)
   long (x ∷ []) some = absurd (some refl)
   long (x ∷ y ∷ rest) some = most 2 (length (x ∷ y ∷ rest)) (omega arith)
 
-  -- the position isn't there
-  pub split_no_place : is_some (stands xs position) ≡ false → refusal (effect xs cells (split position (from_cell number))) ≡ Some NoPlace
-  split_no_place absent = go (nat_le 2 (length position)) (stands xs position) absent
-    where
-      go : (t : Bool) (o : Option (List Item × Unit {0})) → is_some o ≡ false → refusal (steps t o (shell_of (in_cell_at cells number))) ≡ Some NoPlace
-      go false o e = refl
-      go true None e = refl
-      go true (Some made) e = absurd cc
-
-  module _ (some : path ≢ []) (there : is_some (stands xs position) ≡ true) where
+  module _ (some : path ≢ []) (there : is_some (room_at xs position) ≡ true) where
     placed-held : effect xs cells (split position (from_cell number)) ≡ held (shell_of (in_cell_at cells number))
     placed-held =
-        ap (λ t. steps t (stands xs position) (shell_of (in_cell_at cells number))) (long position (λ e. some (above ∙ e)))
-        ∙ go (stands xs position) there
+        ap (λ t. steps t (room_at xs position) (shell_of (in_cell_at cells number))) (long position (λ e. some (above ∙ e)))
+        ∙ go (room_at xs position) there
       where
         go : (o : Option (List Item × Unit {0})) → is_some o ≡ true → steps true o (shell_of (in_cell_at cells number)) ≡ held (shell_of (in_cell_at cells number))
         go None e = absurd cc

@@ -7,7 +7,7 @@ use Rattle.item_definitions.specs.Shift.{carry_remove}
 use Rattle.operation_definitions.specs.Level.{put_in, take_out}
 use Rattle.operation_definitions.specs.Operation as meant
 use Rattle.operation_definitions.specs.Operation.{in_tree, insert, move, no_place, into_itself}
-use Rattle.operation_definitions.specs.After.{◌>>=◌, check, effect, stands, is_in_run}
+use Rattle.operation_definitions.specs.After.{◌>>=◌, check, effect, room_at, is_in_run}
 use Rattle.model_tree.specs.Places.{Gives}
 use Rattle.model_tree.specs.Limits.{changed, moved}
 use Rattle.model_tree.specs.declared.fault.TreeFault.{TreeFault}
@@ -55,31 +55,8 @@ module _ (from : List ℕ) (count : ℕ) (to : List ℕ) (xs : List Item) (cells
   abbrev last : List Item × List Item → Result State meant.Fault
   last taken = ok_or (at (parent_of (carry_remove from count to)) (put_in (offset_of (carry_remove from count to)) taken.1) taken.0) no_place >>= (λ m. Ok (m.0, cells))
 
-  -- the run isn't there
-  pub move_no_run : (parent : List ℕ) (offset : ℕ) → parent ≡ parent_of from → offset ≡ offset_of from → is_some (at parent (take_out offset count) xs) ≡ false → refusal (effect xs cells (move (in_tree from) count (in_tree to))) ≡ Some NoPlace
-  move_no_run parent offset p o e =
-      ap refusal (step-none (at (parent_of from) (take_out (offset_of from) count) xs) no_place (λ taken. ok_or (stands xs to) no_place >>= (λ _. check (not (is_in_run from count to)) into_itself >>= (λ _. last taken)))
-      ((λ i. is_some (at (sym p i) (take_out (sym o i) count) xs)) ∙ e))
-
-  -- the target isn't there
-  pub move_no_target : (parent : List ℕ) (offset : ℕ) → parent ≡ parent_of from → offset ≡ offset_of from → is_some (at parent (take_out offset count) xs) ≡ true → is_some (stands xs to) ≡ false
-      → refusal (effect xs cells (move (in_tree from) count (in_tree to))) ≡ Some NoPlace
-  move_no_target parent offset p o e h =
-      ap refusal (step-there (at (parent_of from) (take_out (offset_of from) count) xs) no_place (λ taken. ok_or (stands xs to) no_place >>= (λ _. check (not (is_in_run from count to)) into_itself >>= (λ _. last taken))) (Err no_place)
-      ((λ i. is_some (at (sym p i) (take_out (sym o i) count) xs)) ∙ e)
-      (λ taken is. step-none (stands xs to) no_place (λ _. check (not (is_in_run from count to)) into_itself >>= (λ _. last taken)) h))
-
-  -- the target is in the run
-  pub move_inside : (parent : List ℕ) (offset : ℕ) → parent ≡ parent_of from → offset ≡ offset_of from → is_some (at parent (take_out offset count) xs) ≡ true → is_some (stands xs to) ≡ true → is_in_run from count to ≡ true
-      → refusal (effect xs cells (move (in_tree from) count (in_tree to))) ≡ Some IntoItself
-  move_inside parent offset p o e h b =
-      ap refusal (step-there (at (parent_of from) (take_out (offset_of from) count) xs) no_place (λ taken. ok_or (stands xs to) no_place >>= (λ _. check (not (is_in_run from count to)) into_itself >>= (λ _. last taken))) (Err into_itself)
-      ((λ i. is_some (at (sym p i) (take_out (sym o i) count) xs)) ∙ e)
-      (λ taken is. step-there (stands xs to) no_place (λ _. check (not (is_in_run from count to)) into_itself >>= (λ _. last taken)) (Err into_itself) h
-      (λ there is. step-not (not (is_in_run from count to)) into_itself (λ _. last taken) (ap not b))))
-
-  move-is : is_some (at (parent_of from) (take_out (offset_of from) count) xs) ≡ true → is_some (stands xs to) ≡ true → is_in_run from count to ≡ false → effect xs cells (move (in_tree from) count (in_tree to)) ≡ placed (moved from count to xs) cells
-  move-is e h b = go (at (parent_of from) (take_out (offset_of from) count) xs) (stands xs to) e h
+  move-is : is_some (at (parent_of from) (take_out (offset_of from) count) xs) ≡ true → is_some (room_at xs to) ≡ true → is_in_run from count to ≡ false → effect xs cells (move (in_tree from) count (in_tree to)) ≡ placed (moved from count to xs) cells
+  move-is e h b = go (at (parent_of from) (take_out (offset_of from) count) xs) (room_at xs to) e h
     where
       go : (o : Option (List Item × List Item)) (there : Option (List Item × Unit {0})) → is_some o ≡ true → is_some there ≡ true
           → (ok_or o no_place >>= (λ taken. ok_or there no_place >>= (λ _. check (not (is_in_run from count to)) into_itself >>= (λ _. last taken))))
@@ -91,7 +68,7 @@ module _ (from : List ℕ) (count : ℕ) (to : List ℕ) (xs : List Item) (cells
           ∙ placed-is (at (parent_of (carry_remove from count to)) (put_in (offset_of (carry_remove from count to)) taken.1) taken.0) cells
 
   pub move_plans : (parent : List ℕ) (offset : ℕ) (above : List ℕ) (end : ℕ) (result : Result Change OpFault) → parent ≡ parent_of from → offset ≡ offset_of from → from ≡ parent ++ offset ∷ [] → to ≡ above ++ end ∷ []
-      → is_some (at parent (take_out offset count) xs) ≡ true → is_some (stands xs to) ≡ true → is_in_run from count to ≡ false
+      → is_some (at parent (take_out offset count) xs) ≡ true → is_some (room_at xs to) ≡ true → is_in_run from count to ≡ false
       → Plans (placed (moved (parent ++ offset ∷ []) count (above ++ end ∷ []) xs) cells) cells result → Plans (effect xs cells (move (in_tree from) count (in_tree to))) cells result
   move_plans parent offset above end result p o f t e h b g =
       subst (λ wanted. Plans wanted cells result)

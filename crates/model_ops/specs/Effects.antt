@@ -1,7 +1,8 @@
 -- What is known of a change that an operation plans.
-use Rattle.std.specs.Prelude.{◌≡◌, ◌≢◌, ℕ, ◌-◌, ◌<◌, ◌≤◌, ◌^◌, min, List, [], ◌∷◌, ◌++◌, length, Option, Some, None, ok_or, Result, Ok, Err}
+use Rattle.std.specs.Prelude.{◌≡◌, ◌≢◌, ℕ, ◌-◌, ◌<◌, ◌≤◌, ◌^◌, min, List, length, Option, Some, None, ok_or, Result, Ok, Err}
 use Rattle.item_definitions.specs.Item.{Item}
 use Rattle.item_definitions.specs.Children.{parent_of, offset_of, child_count}
+use Rattle.item_definitions.specs.Position.{path_before}
 use Rattle.operation_definitions.specs.Operation as meant
 use Rattle.operation_definitions.specs.Operation.{found_value, found_name, no_place, not_flat, into_itself, old_differs, not_neighbours, cell_state, too_large, too_deep}
 use Rattle.operation_definitions.specs.After.{◌>>=◌, fill, have_value}
@@ -72,12 +73,8 @@ given_if old key given cells = do
   same ← have_value key old made.1
   Ok (made.0, cells)
 
--- the path of the item before the one at a path
-abbrev pub left_of : List ℕ → List ℕ
-left_of right = parent_of right ++ (offset_of right - 1) ∷ []
-
 -- a position is behind the items of the element before the one at a path
 pub record IsLeftEnd (right target : List ℕ) (items : List Item) : Type 0 where
   pub second : 0 < offset_of right
-  pub before : parent_of target ≡ left_of right
+  pub before : parent_of target ≡ path_before right
   pub end : child_count items (parent_of target) ≡ Some (offset_of target)

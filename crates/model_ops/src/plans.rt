@@ -4,7 +4,7 @@ ghost use Rattle.item_definitions.specs.Item.{Item, element, none};
 ghost use Rattle.item_definitions.specs.Children.{at};
 ghost use Rattle.operation_definitions.specs.Level.{take_out, give};
 ghost use Rattle.operation_definitions.specs.Operation.{in_tree, in_cell, insert, move, attribute, rename, split, fresh, from_cell, merge};
-ghost use Rattle.operation_definitions.specs.After.{effect, shell_of, stands};
+ghost use Rattle.operation_definitions.specs.After.{effect, shell_of, room_at};
 ghost use Rattle.model_tree.specs.Places.{Gives};
 ghost use Rattle.model_ops.specs.Effects.{Plans, IsLeftEnd, fault_of, given_if, placed};
 
@@ -72,7 +72,7 @@ fn has_run(items: &Items, parent: &[u32], offset: u32, count: u32) -> bool
 /// Whether a position is there.
 #[tactic(auto, using(model_tree::proofs::Removed::place_there, model_tree::proofs::Removed::place_nowhere, model_tree::proofs::Removed::place_short))]
 fn has_place(items: &Items, parent: &[u32], offset: u32) -> bool
-    ensures { result ≡ is_some (stands items.now (parent.now ++ offset ∷ [])) }
+    ensures { result ≡ is_some (room_at items.now (parent.now ++ offset ∷ [])) }
 {
     match items.list_at(parent) {
         Some(level) => level.has_run(offset, 0),

@@ -101,26 +101,6 @@ module _ (above : List ℕ) (front one two : List Range) where
 pub run-ordered : (above : List ℕ) (a b : ℕ) → a < b → not_after (above ++ a ∷ []) (above ++ b ∷ []) ≡ true
 run-ordered above a b less = not_after-parent above (a ∷ []) (b ∷ []) ∙ not_after-cons a b [] [] ∙ grind (arith, nat_tests)
 
-pub run-some : (a b : ℕ) → a < b → run a b ≡ between (a ∷ []) (b ∷ []) ∷ []
-run-some a b less = ap (λ t. if t then between (a ∷ []) (b ∷ []) ∷ [] else []) (yes a b less)
-  where
-    yes : (a b : ℕ) → a < b → nat_lt a b ≡ true
-    yes a b less = grind (arith, nat_tests)
-
-pub run-none : (a b : ℕ) → b ≤ a → run a b ≡ []
-run-none a b most = ap (λ t. if t then between (a ∷ []) (b ∷ []) ∷ [] else []) (no a b most)
-  where
-    no : (a b : ℕ) → b ≤ a → nat_lt a b ≡ false
-    no a b most = grind (arith, nat_tests)
-
-pub next-here : (i : ℕ) (path : List ℕ) (empty : Bool) → empty ≡ (length path == 0) → empty ≡ true → next_offset i path ≡ i
-next-here i [] empty e f = refl
-next-here i (x ∷ path) empty e f = absurd (grind (arith, nat_tests))
-
-pub next-behind : (i : ℕ) (path : List ℕ) (empty : Bool) → empty ≡ (length path == 0) → empty ≡ false → next_offset i path ≡ i + 1
-next-behind i [] empty e f = absurd (grind (arith, nat_tests))
-next-behind i (x ∷ path) empty e f = refl
-
 -- what holds on Ok, in another form
 pub on_ok : {T E P Q : Type 0} (r : Result T E) → (P → Q) → OnOk r P → OnOk r Q
 on_ok (Ok v) f h = f h

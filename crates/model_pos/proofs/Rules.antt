@@ -18,10 +18,7 @@ rest_behind-joined (step ∷ parent) (index ∷ path) rest e = go (step == index
         cc
     go false t e joined = absurd cc
 
-pub untouched-none : (parent position : List ℕ) → rest_behind parent position ≡ None → Untouched parent position
-untouched-none parent position e rule r = ap (λ rest. option_map_or (λ rest. parent ++ rule rest) rest position) e
-
-pub untouched-empty : (parent position : List ℕ) → rest_behind parent position ≡ Some [] → Untouched parent position
+untouched-empty : (parent position : List ℕ) → rest_behind parent position ≡ Some [] → Untouched parent position
 untouched-empty parent position e rule r =
     ap (λ rest. option_map_or (λ rest. parent ++ rule rest) rest position) e ∙ ap (λ rest. parent ++ rest) r ∙ sym (rest_behind-joined parent position [] e)
 
@@ -30,7 +27,7 @@ pub within-rest : (parent position rest : List ℕ) (rule : List ℕ → List �
 within-rest parent position rest rule e = ap (λ rest. option_map_or (λ rest. parent ++ rule rest) rest position) e
 
 -- a number in a position within the limits is below 2^32
-pub limit-at : (parent path : List ℕ) (number : ℕ) → IsWithinLimits (parent ++ number ∷ path) → number < 2 ^ 32
+limit-at : (parent path : List ℕ) (number : ℕ) → IsWithinLimits (parent ++ number ∷ path) → number < 2 ^ 32
 limit-at parent path number h = go parent path number h.1
   where
     go : (parent path : List ℕ) (number : ℕ) → All (λ n. n < 2 ^ 32) (parent ++ number ∷ path) → number < 2 ^ 32
@@ -62,21 +59,8 @@ module _ (parent position path : List ℕ) (number : ℕ) (known : rest_behind p
   pub goes : (rule : List ℕ → List ℕ) (rest : List ℕ) → rule (number ∷ path) ≡ rest → within parent rule position ≡ parent ++ rest
   goes rule rest e = within-rest parent position (number ∷ path) rule known ∙ ap (λ rest. parent ++ rest) e
 
--- the cases of the rules
-pub insert-stays : (at count number : ℕ) (stick : Stick) (path : List ℕ) (before : Bool) → before ≡ comes_before at stick number path → before ≡ false → rule_insert at count stick (number ∷ path) ≡ number ∷ path
-insert-stays at count number stick path before e f = ap (λ b. (if b then number + count else number) ∷ path) (sym e ∙ f)
-
-pub insert-goes : (at count number : ℕ) (stick : Stick) (path : List ℕ) (before : Bool) → before ≡ comes_before at stick number path → before ≡ true → rule_insert at count stick (number ∷ path) ≡ (number + count) ∷ path
-insert-goes at count number stick path before e f = ap (λ b. (if b then number + count else number) ∷ path) (sym e ∙ f)
-
 pub remove-before : (at count number : ℕ) (path : List ℕ) → number < at → rule_remove at count (number ∷ path) ≡ number ∷ path
 remove-before at count number path less = grind (arith, nat_tests)
-
-pub remove-in : (at count number : ℕ) (path : List ℕ) → at ≤ number → number - at < count → rule_remove at count (number ∷ path) ≡ at ∷ []
-remove-in at count number path from less = grind (arith, nat_tests)
-
-pub remove-behind : (at count number : ℕ) (path : List ℕ) → at ≤ number → count ≤ number - at → rule_remove at count (number ∷ path) ≡ (number - count) ∷ path
-remove-behind at count number path from most = grind (arith, nat_tests)
 
 pub split-before : (element at number : ℕ) (stick : Stick) (path : List ℕ) → number < element → rule_split element at stick (number ∷ path) ≡ number ∷ path
 split-before element at number stick path less = pick (number == element) (nat_lt element number) refl refl
@@ -115,10 +99,6 @@ split-goes element at number inner stick path rest before e f g h =
     split-at element at number stick path e ∙ ap (rule_cut element at stick) f
     ∙ ap (λ b. if b then (element + 1) ∷ (inner - at) ∷ rest else element ∷ inner ∷ rest) (sym g ∙ h)
 
-pub comes_before-most : (at number : ℕ) (stick : Stick) (path : List ℕ) (before : Bool) → before ≡ comes_before at stick number path → before ≡ true → at ≤ number
-comes_before-most at number stick [] before e f = grind (arith, nat_tests)
-comes_before-most at number stick (next ∷ path) before e f = grind (arith, nat_tests)
-
 pub merge-before : (right count number : ℕ) (path : List ℕ) → number < right → rule_merge right count (number ∷ path) ≡ number ∷ path
 merge-before right count number path less = pick (number == right) (nat_lt right number) refl refl
   where
@@ -127,24 +107,12 @@ merge-before right count number path less = pick (number == right) (nat_lt right
     pick false true e f = absurd (grind (arith, nat_tests))
     pick false false e f = refl
 
-pub merge-behind : (right count number : ℕ) (path : List ℕ) → right < number → rule_merge right count (number ∷ path) ≡ (number - 1) ∷ path
-merge-behind right count number path less = pick (number == right) (nat_lt right number) refl refl
-  where
-    pick : (same more : Bool) → same ≡ (number == right) → more ≡ nat_lt right number → (if same then (right - 1) ∷ rule_join count path else (if more then number - 1 else number) ∷ path) ≡ (number - 1) ∷ path
-    pick true more e f = absurd (grind (arith, nat_tests))
-    pick false true e f = refl
-    pick false false e f = absurd (grind (arith, nat_tests))
-
 merge-at : (right count number : ℕ) (path : List ℕ) → number ≡ right → rule_merge right count (number ∷ path) ≡ (right - 1) ∷ rule_join count path
 merge-at right count number path e = pick (number == right) refl
   where
     pick : (same : Bool) → same ≡ (number == right) → (if same then (right - 1) ∷ rule_join count path else (if nat_lt right number then number - 1 else number) ∷ path) ≡ (right - 1) ∷ rule_join count path
     pick true f = refl
     pick false f = absurd (grind (arith, nat_tests))
-
-pub merge-seam : (right count number : ℕ) (path : List ℕ) → number ≡ right → length path ≡ 0 → rule_merge right count (number ∷ path) ≡ (right - 1) ∷ count ∷ []
-merge-seam right count number [] e f = merge-at right count number [] e
-merge-seam right count number (inner ∷ path) e f = absurd (omega arith)
 
 pub merge-in : (right count number inner : ℕ) (path rest : List ℕ) → number ≡ right → path ≡ inner ∷ rest → rule_merge right count (number ∷ path) ≡ (right - 1) ∷ (count + inner) ∷ rest
 merge-in right count number inner path rest e f = merge-at right count number path e ∙ ap (λ p. (right - 1) ∷ rule_join count p) f

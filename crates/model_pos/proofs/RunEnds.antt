@@ -62,17 +62,9 @@ module _ (parent from position : List ℕ) (offset count : ℕ) (whole : from �
   start-inside number path e =
       (λ t. not_after (end-is t) (rest_behind-joined parent position (number ∷ path) e t)) ∙ not_after-parent parent ((offset + count) ∷ []) (number ∷ path)
 
-pub stands-last : (number last : ℕ) (path : List ℕ) → length path ≡ 0 → not_after (number ∷ path) (last ∷ []) ≡ nat_le number last
-stands-last number last [] e = not_after-cons number last [] [] ∙ grind (arith, nat_tests)
-stands-last number last (x ∷ path) e = absurd (omega arith)
-
 pub passes-last : (number last : ℕ) (path : List ℕ) → 0 < length path → not_after (number ∷ path) (last ∷ []) ≡ nat_lt number last
 passes-last number last [] e = absurd (omega arith)
 passes-last number last (x ∷ path) e = not_after-cons number last (x ∷ path) [] ∙ grind (arith, nat_tests)
-
-pub before-last : (number last : ℕ) (path : List ℕ) → not (not_after (last ∷ []) (number ∷ path)) ≡ nat_lt number last
-before-last number last [] = ap not (not_after-cons last number [] []) ∙ grind (arith, nat_tests)
-before-last number last (x ∷ path) = ap not (not_after-cons last number [] (x ∷ path)) ∙ grind (arith, nat_tests)
 
 -- where a position of a run goes with it
 pub run-goes : (parent from position path to target : List ℕ) (number offset first : ℕ) → parent ≡ parent_of from → offset ≡ offset_of from → target ≡ parent_of to → first ≡ offset_of to

@@ -5,9 +5,10 @@ use Rattle.item_definitions.specs.Item.{Item, character, element, list_of, inner
 use Rattle.item_definitions.specs.Children.{parent_of, offset_of, at}
 use Rattle.item_definitions.specs.Shift.{carry_remove, rule_remove}
 use Rattle.operation_definitions.specs.Level.{put_in, take_out}
-use Rattle.operation_definitions.specs.After.{stands}
+use Rattle.operation_definitions.specs.After.{room_at}
 use Rattle.operation_definitions.proofs.Lifting.{map-some, then-some}
-use Rattle.operation_definitions.proofs.Levels.{replaced, three}
+use Rattle.operation_definitions.proofs.Levels.{replaced}
+use Rattle.ck_base.proofs.Common.{in_three}
 use Rattle.operation_definitions.proofs.Moves.{cut, decide, within-same, within-other}
 use Rattle.model_tree.specs.Limits.{changed, moved}
 use Rattle.model_tree.proofs.AtPaths.{inside}
@@ -31,7 +32,7 @@ run-flat [] offset count xs ys run e =
     let r = replaced offset count (λ run. Some ([], run)) xs ys run e in
     let p : ◌≡◌ {A = Option (List Item × List Item)} (Some ([], take count (drop offset xs))) (Some (r.new, run)) = r.gives in
     let q : ◌≡◌ {A = List Item × List Item} ([], take count (drop offset xs)) (r.new, run) = cc in
-    omega (arith, ap (λ (both : List Item × List Item). depth_of both.1) q, ap depth_of (three offset count xs), three-depth (take offset xs) (take count (drop offset xs)) (drop (offset + count) xs))
+    omega (arith, ap (λ (both : List Item × List Item). depth_of both.1) q, ap depth_of (in_three offset count xs), three-depth (take offset xs) (take count (drop offset xs)) (drop (offset + count) xs))
 run-flat (index ∷ path) offset count xs ys run e =
     let i = inside xs index (at path (take_out offset count)) ys run e in
     omega (arith, run-flat path offset count i.children i.new run i.made, inner-flat xs index i.item i.children i.there i.here)
@@ -65,26 +66,3 @@ parent-long : (path : List ℕ) → length (parent_of path) ≤ length path
 parent-long [] = omega arith
 parent-long (x ∷ []) = omega arith
 parent-long (x ∷ y ∷ path) = omega (arith, parent-long (y ∷ path))
-
--- a move makes a tree deeper by no more than the length of its target
-pub move_flat : (from : List ℕ) (count : ℕ) (to : List ℕ) (xs : List Item) → length to + depth_of xs ≤ 64 → IfSome (moved from count to xs) (λ made. depth_of made ≤ 64)
-move_flat from count to xs less = go (moved from count to xs) refl
-  where
-    go : (o : Option (List Item)) → moved from count to xs ≡ o → IfSome o (λ made. depth_of made ≤ 64)
-    go None e = tt
-    go (Some ys) e =
-        let at_target : List Item × List Item → Option (List Item) = λ taken. changed (at (parent_of (carry_remove from count to)) (put_in (offset_of (carry_remove from count to)) taken.1) taken.0) in
-        let a = then-some (λ taken. option_and_then (λ _. at_target taken) (stands xs to)) (at (parent_of from) (take_out (offset_of from) count) xs) ys e in
-        let b = then-some (λ (there : List Item × Unit {0}). at_target a.0) (stands xs to) ys a.2 in
-        let c = map-some (λ (both : List Item × Unit {0}). both.0) (at (parent_of (carry_remove from count to)) (put_in (offset_of (carry_remove from count to)) a.0.1) a.0.0) ys b.2 in
-        let came = put_in_depth (parent_of (carry_remove from count to)) (offset_of (carry_remove from count to)) a.0.1 a.0.0 c.0.0 c.0.1 c.1 in
-        omega (
-          arith,
-          less,
-          came,
-          ap depth_of c.2,
-          run-flat (parent_of from) (offset_of from) count xs a.0.0 a.0.1 a.1,
-          rest-flat (parent_of from) (offset_of from) count xs a.0.0 a.0.1 a.1,
-          parent-long (carry_remove from count to),
-          cut-long (parent_of from) (offset_of from) count to,
-        )

@@ -178,7 +178,7 @@ split-more offset shells shell s (element id name attributes children ∷ []) ne
     then-made false made given e = absurd cc
 split-more offset shells shell s (item ∷ next ∷ rest) new r e = absurd cc
 
-pub split_count : (path : List ℕ) (offset : ℕ) (shells xs ys : List Item) → changed (split_with path offset shells xs) ≡ Some ys → count_of ys ≡ count_of xs + 1
+split_count : (path : List ℕ) (offset : ℕ) (shells xs ys : List Item) → changed (split_with path offset shells xs) ≡ Some ys → count_of ys ≡ count_of xs + 1
 split_count path offset shells xs ys e =
     let m = map-some (λ (both : List Item × Item). both.0) (split_with path offset shells xs) ys e in
     let s = then-some (λ shell. split_path path offset shell xs) (shell_of shells) m.0 m.1 in
@@ -191,11 +191,3 @@ split_count path offset shells xs ys e =
         (λ xs ys r. replace-counts (one_item (λ item. split_item offset shell item)) (λ _. 0) (λ _. 1) (λ run new r. split-more offset shells shell s run new r) (offset_of (index ∷ path)) 1 xs ys r)
         (parent_of (index ∷ path)) xs made.0 made.1 e in
         omega (arith, counts, ap count_of is)
-
--- so with room for one there is room for it
-pub split_few : (path : List ℕ) (offset : ℕ) (shells xs : List Item) → count_of xs + 1 < 2 ^ 32 → IfSome (changed (split_with path offset shells xs)) (λ made. count_of made < 2 ^ 32)
-split_few path offset shells xs less = go (changed (split_with path offset shells xs)) refl
-  where
-    go : (o : Option (List Item)) → changed (split_with path offset shells xs) ≡ o → IfSome o (λ made. count_of made < 2 ^ 32)
-    go None e = tt
-    go (Some ys) e = omega (arith, less, split_count path offset shells xs ys e)

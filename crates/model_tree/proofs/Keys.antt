@@ -42,13 +42,6 @@ full_given key value read nodes index node made same h less is e =
     length-given [] = refl
     length-given (item ∷ items) = ap suc (length-given items)
 
-pub next_given : (key : List ℕ) (value : Option AttributeValue) (read nodes before after : List Node) (index : ℕ) (node made : Node) → read ≡ nodes → index < length nodes → node ≡ get_or read index node
-    → items_in before ≡ given key value (items_in (take index nodes)) → items_at made ≡ given key value (items_at node) → items_in after ≡ items_in before ++ items_at made
-    → items_in after ≡ given key value (items_in (take (index + 1) nodes))
-next_given key value read nodes before after index node made same less is b m a =
-    a ∙ (λ i. b i ++ m i) ∙ sym (map-append (λ item. with_attributes (with_key key value (attributes_of item)) item) (items_in (take index nodes)) (items_at node))
-    ∙ ap (given key value) (up_to nodes index node less (is ∙ ap (λ xs. get_or xs index node) same))
-
 -- a value given to a run at a path
 module _ (path : List ℕ) (offset count : ℕ) (key : List ℕ) (value : Option AttributeValue) (xs : List Item) where
   pub give_nowhere : children_at path xs ≡ None → changed (at path (give offset count key value) xs) ≡ None

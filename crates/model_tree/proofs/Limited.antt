@@ -4,7 +4,8 @@ use Rattle.item_definitions.specs.Item.{Item, character, element, list_of, inner
 use Rattle.item_definitions.specs.Children.{Change, at}
 use Rattle.item_definitions.proofs.Sizes.{count-list, depth-list}
 use Rattle.operation_definitions.specs.Level.{replace, take_out}
-use Rattle.operation_definitions.proofs.Levels.{replaced, three}
+use Rattle.operation_definitions.proofs.Levels.{replaced}
+use Rattle.ck_base.proofs.Common.{in_three}
 use Rattle.model_tree.specs.Limits.{IsTree}
 use Rattle.model_tree.proofs.Counts.{count-append, depth-append, count-inner, depth-inner}
 use Rattle.model_tree.proofs.AtPaths.{inside}
@@ -65,7 +66,7 @@ replace-counts f less added h offset count xs ys r e =
     let a = take offset xs in
     let run = take count (drop offset xs) in
     let c = drop (offset + count) xs in
-    omega (arith, h run d.new r d.gives, ap count_of d.result, three-count a d.new c, ap count_of (three offset count xs), three-count a run c)
+    omega (arith, h run d.new r d.gives, ap count_of d.result, three-count a d.new c, ap count_of (in_three offset count xs), three-count a run c)
 
 pub replace-depths : {R : Type 0} (f : Change R) → ((run new : List Item) (r : R) → f run ≡ Some (new, r) → depth_of new ≤ depth_of run)
     → (offset count : ℕ) (xs ys : List Item) (r : R) → replace offset count f xs ≡ Some (ys, r) → depth_of ys ≤ depth_of xs
@@ -74,7 +75,7 @@ replace-depths f h offset count xs ys r e =
     let a = take offset xs in
     let run = take count (drop offset xs) in
     let c = drop (offset + count) xs in
-    omega (arith, h run d.new r d.gives, ap depth_of d.result, three-depth a d.new c, ap depth_of (three offset count xs), three-depth a run c)
+    omega (arith, h run d.new r d.gives, ap depth_of d.result, three-depth a d.new c, ap depth_of (in_three offset count xs), three-depth a run c)
 
 first : {R : Type 0} → Option (List Item × R) → List Item
 first None = []

@@ -13,7 +13,7 @@ use Rattle.model_tree.specs.Limits.{IsTree, merged}
 use Rattle.model_tree.specs.declared.fault.TreeFault.{TreeFault}
 use Rattle.model_tree.specs.declared.fault.TreeFault.TheVariants.{NoPlace, NoMemory}
 use Rattle.model_tree.proofs.AtPaths.{at-fails}
-use Rattle.model_tree.proofs.Puts.{nowhere, made, fault, memory, run-fails}
+use Rattle.model_tree.proofs.Puts.{nowhere, made, fault, memory, run-fails, is-map}
 use Rattle.model_tree.proofs.Names.{this_one}
 use Rattle.model_tree.proofs.Counts.{count-append, depth-append, count-inner, depth-inner}
 use Rattle.model_tree.proofs.Limited.{at-counts, at-depths, replace-counts, replace-depths}
@@ -54,10 +54,6 @@ emptied_one made = (made.0, made.1.0 ∷ [])
 
 merge-is : (left right : HeadParts) (front back : List Item) → merge_items (element_of left front ∷ element_of right back ∷ []) ≡ Some (element_of left (front ++ back) ∷ [], (element_of right [], length front))
 merge-is left right front back = λ i. Some (element_of left (list_of-items_of front i ++ list_of-items_of back i) ∷ [], (element_of right [], length (list_of-items_of front i)))
-
-is-map : {X Y : Type 0} (f : X → Y) (o : Option X) → is_some (option_map f o) ≡ is_some o
-is-map f None = refl
-is-map f (Some x) = refl
 
 module _ (path : List ℕ) (index : ℕ) (xs : List Item) where
   pub merge_nowhere : children_at path xs ≡ None → option_map emptied_one (at path (merge_at index) xs) ≡ None

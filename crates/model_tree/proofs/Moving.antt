@@ -6,7 +6,7 @@ use Rattle.item_definitions.specs.Children.{parent_of, offset_of, at}
 use Rattle.item_definitions.specs.Shift.{carry_remove, rule_remove, within}
 use Rattle.item_definitions.proofs.Paths.{parent_of-push, offset_of-push, push-some}
 use Rattle.operation_definitions.specs.Level.{put_in, take_out}
-use Rattle.operation_definitions.specs.After.{stands}
+use Rattle.operation_definitions.specs.After.{room_at}
 use Rattle.operation_definitions.proofs.Lifting.{map-some, then-some, at-also}
 use Rattle.operation_definitions.proofs.Moves.{cut, cut-some}
 use Rattle.operation_definitions.proofs.Stays.{Is, put_in-room, put_in-fits}
@@ -23,15 +23,15 @@ abbrev put_there : List ℕ → List Item × List Item → Option (List Item)
 put_there target taken = changed (at (parent_of target) (put_in (offset_of target) taken.1) taken.0)
 
 abbrev there_too : List ℕ → ℕ → List ℕ → List Item → List Item × List Item → Option (List Item)
-there_too from count to xs taken = option_and_then (λ _. put_there (carry_remove from count to) taken) (stands xs to)
+there_too from count to xs taken = option_and_then (λ _. put_there (carry_remove from count to) taken) (room_at xs to)
 
 module _ (parent : List ℕ) (offset count : ℕ) (to : List ℕ) (to_offset : ℕ) (xs : List Item) where
   from-is : moved (parent ++ offset ∷ []) count (to ++ to_offset ∷ []) xs ≡ option_and_then (there_too (parent ++ offset ∷ []) count (to ++ to_offset ∷ []) xs) (at parent (take_out offset count) xs)
   from-is = λ i. option_and_then (there_too (parent ++ offset ∷ []) count (to ++ to_offset ∷ []) xs) (at (parent_of-push parent offset i) (take_out (offset_of-push parent offset i) count) xs)
 
   -- no target
-  pub no_target : is_some (stands xs (to ++ to_offset ∷ [])) ≡ false → moved (parent ++ offset ∷ []) count (to ++ to_offset ∷ []) xs ≡ None
-  no_target e = from-is ∙ go (at parent (take_out offset count) xs) (stands xs (to ++ to_offset ∷ [])) e
+  pub no_target : is_some (room_at xs (to ++ to_offset ∷ [])) ≡ false → moved (parent ++ offset ∷ []) count (to ++ to_offset ∷ []) xs ≡ None
+  no_target e = from-is ∙ go (at parent (take_out offset count) xs) (room_at xs (to ++ to_offset ∷ [])) e
     where
       go : (o : Option (List Item × List Item)) (there : Option (List Item × Unit {0})) → is_some there ≡ false
           → option_and_then (λ taken. option_and_then (λ _. put_there (carry_remove (parent ++ offset ∷ []) count (to ++ to_offset ∷ [])) taken) there) o ≡ None
@@ -40,12 +40,12 @@ module _ (parent : List ℕ) (offset count : ℕ) (to : List ℕ) (to_offset : �
       go (Some taken) (Some made) e = absurd cc
 
   -- no run
-  pub no_run : at parent (take_out offset count) xs ≡ None → moved (parent ++ offset ∷ []) count (to ++ to_offset ∷ []) xs ≡ None
+  no_run : at parent (take_out offset count) xs ≡ None → moved (parent ++ offset ∷ []) count (to ++ to_offset ∷ []) xs ≡ None
   no_run e = from-is ∙ ap (option_and_then (there_too (parent ++ offset ∷ []) count (to ++ to_offset ∷ []) xs)) e
 
-  moved-is : (taken : List Item × List Item) → at parent (take_out offset count) xs ≡ Some taken → is_some (stands xs (to ++ to_offset ∷ [])) ≡ true
+  moved-is : (taken : List Item × List Item) → at parent (take_out offset count) xs ≡ Some taken → is_some (room_at xs (to ++ to_offset ∷ [])) ≡ true
       → moved (parent ++ offset ∷ []) count (to ++ to_offset ∷ []) xs ≡ put_there (carry_remove (parent ++ offset ∷ []) count (to ++ to_offset ∷ [])) taken
-  moved-is taken e h = from-is ∙ ap (option_and_then (there_too (parent ++ offset ∷ []) count (to ++ to_offset ∷ []) xs)) e ∙ go (stands xs (to ++ to_offset ∷ [])) h
+  moved-is taken e h = from-is ∙ ap (option_and_then (there_too (parent ++ offset ∷ []) count (to ++ to_offset ∷ []) xs)) e ∙ go (room_at xs (to ++ to_offset ∷ [])) h
     where
       go : (there : Option (List Item × Unit {0})) → is_some there ≡ true → option_and_then (λ _. put_there (carry_remove (parent ++ offset ∷ []) count (to ++ to_offset ∷ [])) taken) there
           ≡ put_there (carry_remove (parent ++ offset ∷ []) count (to ++ to_offset ∷ [])) taken
@@ -59,7 +59,7 @@ module _ (parent : List ℕ) (offset count : ℕ) (to : List ℕ) (to_offset : �
 
   -- with the run out, the rest is as the items put in at the target
   pub move_gives : (rest run : List Item) (target path : List ℕ) (last : ℕ) (result : Result (List Item) TreeFault) → at parent (take_out offset count) xs ≡ Some (rest, run)
-      → is_some (stands xs (to ++ to_offset ∷ [])) ≡ true → target ≡ carry_remove (parent ++ offset ∷ []) count (to ++ to_offset ∷ []) → target ≡ path ++ last ∷ []
+      → is_some (room_at xs (to ++ to_offset ∷ [])) ≡ true → target ≡ carry_remove (parent ++ offset ∷ []) count (to ++ to_offset ∷ []) → target ≡ path ++ last ∷ []
       → Gives (changed (at path (put_in last run) rest)) result → Gives (moved (parent ++ offset ∷ []) count (to ++ to_offset ∷ []) xs) result
   move_gives rest run target path last result e h t is g =
       let same : moved (parent ++ offset ∷ []) count (to ++ to_offset ∷ []) xs ≡ changed (at path (put_in last run) rest) =
@@ -67,13 +67,13 @@ module _ (parent : List ℕ) (offset count : ℕ) (to : List ℕ) (to_offset : �
       subst (λ o. Gives o result) (sym same) g
 
   -- a run and a target that are there are enough
-  pub move_there : is_some (at parent (take_out offset count) xs) ≡ true → is_some (stands xs (to ++ to_offset ∷ [])) ≡ true → is_some (moved (parent ++ offset ∷ []) count (to ++ to_offset ∷ []) xs) ≡ true
-  move_there e h = go (at parent (take_out offset count) xs) (stands xs (to ++ to_offset ∷ [])) refl refl e h
+  pub move_there : is_some (at parent (take_out offset count) xs) ≡ true → is_some (room_at xs (to ++ to_offset ∷ [])) ≡ true → is_some (moved (parent ++ offset ∷ []) count (to ++ to_offset ∷ []) xs) ≡ true
+  move_there e h = go (at parent (take_out offset count) xs) (room_at xs (to ++ to_offset ∷ [])) refl refl e h
     where
       also-full : (offset : ℕ) (run : List Item) (xs ys : List Item) (r : Unit {0}) → put_in offset [] xs ≡ Some (ys, r) → (made : List Item × Unit {0}) × (put_in offset run xs ≡ Some made)
       also-full offset run xs ys r e = put_in-room offset run xs (put_in-fits offset [] xs ((ys, r), e))
 
-      go : (o : Option (List Item × List Item)) (there : Option (List Item × Unit {0})) → at parent (take_out offset count) xs ≡ o → stands xs (to ++ to_offset ∷ []) ≡ there → is_some o ≡ true → is_some there ≡ true
+      go : (o : Option (List Item × List Item)) (there : Option (List Item × Unit {0})) → at parent (take_out offset count) xs ≡ o → room_at xs (to ++ to_offset ∷ []) ≡ there → is_some o ≡ true → is_some there ≡ true
           → is_some (moved (parent ++ offset ∷ []) count (to ++ to_offset ∷ []) xs) ≡ true
       go None there a b e h = absurd cc
       go (Some taken) None a b e h = absurd cc
@@ -81,12 +81,12 @@ module _ (parent : List ℕ) (offset count : ℕ) (to : List ℕ) (to_offset : �
           let stays = carried_in parent offset count xs taken.0 taken.1 (to ++ to_offset ∷ []) a (made, b) in
           let target = carry_remove (parent ++ offset ∷ []) count (to ++ to_offset ∷ []) in
           let here : cut parent offset count (to ++ to_offset ∷ []) ≡ target = λ i. within (sym (parent_of-push parent offset) i) (rule_remove (sym (offset_of-push parent offset) i) count) (to ++ to_offset ∷ []) in
-          let stood = subst (λ p. Is (stands taken.0 p)) here stays in
+          let stood = subst (λ p. Is (room_at taken.0 p)) here stays in
           let full = at-also (put_in (offset_of target) []) (put_in (offset_of target) taken.1) (also-full (offset_of target) taken.1) (parent_of target) taken.0 stood.0.0 stood.0.1 stood.1 in
           ap is_some (moved-is taken a (ap is_some b) ∙ ap changed full.1)
 
 -- the run could not be taken out
-pub run_fault : (parent : List ℕ) (offset count : ℕ) (to : List ℕ) (to_offset : ℕ) (xs : List Item) (fault : TreeFault) → is_some (stands xs (to ++ to_offset ∷ [])) ≡ true
+pub run_fault : (parent : List ℕ) (offset count : ℕ) (to : List ℕ) (to_offset : ℕ) (xs : List Item) (fault : TreeFault) → is_some (room_at xs (to ++ to_offset ∷ [])) ≡ true
     → Gives {A = List Item × List Item} (at parent (take_out offset count) xs) (Err fault) → Gives {A = List Item} (moved (parent ++ offset ∷ []) count (to ++ to_offset ∷ []) xs) (Err fault)
 run_fault parent offset count to to_offset xs NoPlace h g = no_run parent offset count to to_offset xs g
 run_fault parent offset count to to_offset xs NoMemory h g = move_there parent offset count to to_offset xs g h
@@ -95,7 +95,7 @@ run_fault parent offset count to to_offset xs NoMemory h g = move_there parent o
 pub move_stays : (from : List ℕ) (count : ℕ) (to : List ℕ) (xs ys : List Item) → moved from count to xs ≡ Some ys → IfSome (moved from count to xs) (λ made. depth_of made ≤ 64) → IsTree xs → IsTree ys
 move_stays from count to xs ys e flat t =
     let a = then-some (there_too from count to xs) (at (parent_of from) (take_out (offset_of from) count) xs) ys e in
-    let b = then-some (λ (there : List Item × Unit {0}). put_there (carry_remove from count to) a.0) (stands xs to) ys a.2 in
+    let b = then-some (λ (there : List Item × Unit {0}). put_there (carry_remove from count to) a.0) (room_at xs to) ys a.2 in
     let target = carry_remove from count to in
     let c = map-some (λ (both : List Item × Unit {0}). both.0) (at (parent_of target) (put_in (offset_of target) a.0.1) a.0.0) ys b.2 in
     let out = take_out_counts (parent_of from) (offset_of from) count xs a.0.0 a.0.1 a.1 in

@@ -3,19 +3,12 @@ use Rattle.std.proofs.Common.{◌≡◌, ℕ, ◌+◌, ◌<◌, List, [], ◌∷
 use Rattle.ck_base.specs.Entries.{IsOrdered}
 use Rattle.item_definitions.specs.Item.{Item, Attributes, character, items_of}
 use Rattle.operation_definitions.specs.Reversed.{AreOrdered, IsInnerOrdered}
+use Rattle.operation_definitions.proofs.Ordered.{children-ordered, append-ordered}
 use Rattle.model_tree.specs.declared.items.Node.{Node}
 use Rattle.model_tree.specs.declared.items.Node.TheVariants.{Run, Element}
 use Rattle.model_tree.specs.Parts.{TextParts, HeadParts}
 use Rattle.model_tree.specs.Nodes.{items_at, items_in}
 use Rattle.model_tree.proofs.Steps.{up_to}
-
-inner_ordered : (items : List Item) → AreOrdered items → IsInnerOrdered (items_of items)
-inner_ordered [] h = tt
-inner_ordered (item ∷ items) h = (h.0, inner_ordered items h.1)
-
-ordered-append : (front back : List Item) → AreOrdered front → AreOrdered back → AreOrdered (front ++ back)
-ordered-append [] back f b = b
-ordered-append (item ∷ front) back f b = (f.0, ordered-append front back f.1 b)
 
 characters_ordered : (attributes : Attributes) (scalars : List ℕ) → IsOrdered attributes → AreOrdered (map (λ scalar. character scalar attributes) scalars)
 characters_ordered attributes [] h = tt
@@ -25,9 +18,9 @@ pub text_ordered : (text : TextParts) → IsOrdered text.attributes → AreOrder
 text_ordered text h = characters_ordered text.attributes text.scalars h
 
 pub element_ordered : (head : HeadParts) (children : List Item) → IsOrdered head.attributes → AreOrdered children → AreOrdered (items_at (Element head children))
-element_ordered head children h inside = ((h, inner_ordered children inside), tt)
+element_ordered head children h inside = ((h, children-ordered children inside), tt)
 
 pub next_ordered : (read nodes : List Node) (index : ℕ) (node : Node) → read ≡ nodes → index < length nodes → node ≡ get_or read index node
     → AreOrdered (items_in (take index nodes)) → AreOrdered (items_at node) → AreOrdered (items_in (take (index + 1) nodes))
 next_ordered read nodes index node same less found front here =
-    subst AreOrdered (up_to nodes index node less (found ∙ ap (λ xs. get_or xs index node) same)) (ordered-append (items_in (take index nodes)) (items_at node) front here)
+    subst AreOrdered (up_to nodes index node less (found ∙ ap (λ xs. get_or xs index node) same)) (append-ordered (items_in (take index nodes)) (items_at node) front here)

@@ -12,7 +12,7 @@ use Rattle.model_tree.specs.declared.fault.TreeFault.{TreeFault}
 use Rattle.model_tree.specs.declared.fault.TreeFault.TheVariants.{NoPlace, NoMemory}
 use Rattle.model_tree.proofs.AtPaths.{set_in, with_in, through, at-through, at-nowhere, at-fails, at-run}
 
-is-map : {X Y : Type 0} (f : X → Y) (o : Option X) → is_some (option_map f o) ≡ is_some o
+pub is-map : {X Y : Type 0} (f : X → Y) (o : Option X) → is_some (option_map f o) ≡ is_some o
 is-map f None = refl
 is-map f (Some x) = refl
 
@@ -56,7 +56,7 @@ module _ {R : Type 0} (f : Change R) (path : List ℕ) (offset count : ℕ) (xs 
   memory level new r e fits h = fault level new r NoMemory e h (there path offset count xs level new e fits)
 
 -- items put in
-pub put_in-is : (path : List ℕ) (offset : ℕ) (new xs : List Item) → changed (at path (put_in offset new) xs) ≡ put_run path offset 0 new xs
+put_in-is : (path : List ℕ) (offset : ℕ) (new xs : List Item) → changed (at path (put_in offset new) xs) ≡ put_run path offset 0 new xs
 put_in-is path offset new xs = go (children_at path xs) refl
   where
     unit : Unit {0}

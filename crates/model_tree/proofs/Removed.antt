@@ -7,27 +7,28 @@ use Rattle.item_definitions.specs.Children.{Change, parent_of, offset_of, childr
 use Rattle.item_definitions.specs.Shift.{rule_remove}
 use Rattle.item_definitions.proofs.Paths.{parent_of-push, offset_of-push}
 use Rattle.operation_definitions.specs.Level.{put_in, take_out}
-use Rattle.operation_definitions.specs.After.{stands}
+use Rattle.operation_definitions.specs.After.{room_at}
 use Rattle.operation_definitions.proofs.Lifting.{inner-with_inner, get-set}
-use Rattle.operation_definitions.proofs.Levels.{replaced, three}
+use Rattle.operation_definitions.proofs.Levels.{replaced}
+use Rattle.ck_base.proofs.Common.{in_three}
 use Rattle.operation_definitions.proofs.Moves.{cut, cut-some, decide, within-same, within-other}
-use Rattle.operation_definitions.proofs.Stays.{Is, put_in-room, put_in-fits}
+use Rattle.operation_definitions.proofs.Stays.{Is, put_in-room, put_in-fits, get-other, at_index-is, stands-below}
 use Rattle.model_tree.proofs.AtPaths.{at-nowhere, at-fails, at-through, inside}
 use Rattle.model_tree.proofs.Found.{get-front, get-back}
 use Rattle.model_tree.proofs.Puts.{memory}
 
 -- a position is there exactly where its parent has so many items
-stands-is : (parent : List ℕ) (offset : ℕ) (xs : List Item) → stands xs (parent ++ offset ∷ []) ≡ at parent (put_in offset []) xs
+stands-is : (parent : List ℕ) (offset : ℕ) (xs : List Item) → room_at xs (parent ++ offset ∷ []) ≡ at parent (put_in offset []) xs
 stands-is parent offset xs = λ i. at (parent_of-push parent offset i) (put_in (offset_of-push parent offset i) []) xs
 
-pub place_there : (parent : List ℕ) (offset : ℕ) (xs level : List Item) → Some level ≡ children_at parent xs → offset + 0 ≤ length level → is_some (stands xs (parent ++ offset ∷ [])) ≡ true
+pub place_there : (parent : List ℕ) (offset : ℕ) (xs level : List Item) → Some level ≡ children_at parent xs → offset + 0 ≤ length level → is_some (room_at xs (parent ++ offset ∷ [])) ≡ true
 place_there parent offset xs level e fits =
     ap is_some (stands-is parent offset xs) ∙ memory (λ items. Some ([] ++ items, tt)) parent offset 0 xs level [] tt (sym e) fits refl
 
-pub place_nowhere : (parent : List ℕ) (offset : ℕ) (xs : List Item) → None ≡ children_at parent xs → is_some (stands xs (parent ++ offset ∷ [])) ≡ false
+pub place_nowhere : (parent : List ℕ) (offset : ℕ) (xs : List Item) → None ≡ children_at parent xs → is_some (room_at xs (parent ++ offset ∷ [])) ≡ false
 place_nowhere parent offset xs e = ap is_some (stands-is parent offset xs ∙ at-nowhere (put_in offset []) parent xs (sym e))
 
-pub place_short : (parent : List ℕ) (offset : ℕ) (xs level : List Item) → Some level ≡ children_at parent xs → length level < offset + 0 → is_some (stands xs (parent ++ offset ∷ [])) ≡ false
+pub place_short : (parent : List ℕ) (offset : ℕ) (xs level : List Item) → Some level ≡ children_at parent xs → length level < offset + 0 → is_some (room_at xs (parent ++ offset ∷ [])) ≡ false
 place_short parent offset xs level e less =
     ap is_some (stands-is parent offset xs ∙ at-fails (put_in offset []) parent xs level (sym e) (short (put_in offset [] level) refl))
   where
@@ -57,7 +58,7 @@ parted offset count xs ys run e =
       back = drop (offset + count) xs;
       long = omega (arith, length-take offset xs, r.room);
       many = omega (arith, length-take count (drop offset xs), length-drop offset xs, r.room);
-      before = sym (three offset count xs);
+      before = sym (in_three offset count xs);
       after = sym r.result ∙ ap (λ new. take offset xs ++ (new ++ drop (offset + count) xs)) (sym none);
     }
 
@@ -87,25 +88,7 @@ get-behind offset count xs ys run i e least =
     ap (λ zs. slice_get zs (i - count)) p.after ∙ get-back p.front p.back (i - count) first ∙ ap (slice_get p.back) same
     ∙ sym (ap (λ zs. slice_get zs i) p.before ∙ get-back p.front (p.run ++ p.back) i second ∙ get-back p.run p.back (i - length p.front) third)
 
-get-other : (xs : List Item) (i j : ℕ) (x : Item) → i ≢ j → slice_get (slice_set xs i x) j ≡ slice_get xs j
-get-other [] i j x differ = refl
-get-other (y ∷ xs) zero zero x differ = absurd (differ refl)
-get-other (y ∷ xs) zero (suc j) x differ = refl
-get-other (y ∷ xs) (suc i) zero x differ = refl
-get-other (y ∷ xs) (suc i) (suc j) x differ = get-other xs i j x (λ e. differ (ap suc e))
-
--- the change of the item at an index that is there
-index-is : {R : Type 0} (xs : List Item) (i : ℕ) (item : Item) (children : List Item) (change : Change R) → slice_get xs i ≡ Some item → inner item ≡ Some children → Is (change children) → Is (at_index i (in_item change) xs)
-index-is {R = R} xs i item children change e f h = (
-  (slice_set xs i (with_inner h.0.0 item), h.0.1),
-  at-through change xs i item children e f ∙ ap (λ o. option_map (λ (made : Item × R). (slice_set xs i made.0, made.1)) (option_map (λ (made : List Item × R). (with_inner made.0 item, made.1)) o)) h.1,
-)
-
-stands-below : (xs : List Item) (i : ℕ) (path : List ℕ) → path ≢ [] → stands xs (i ∷ path) ≡ at_index i (in_item (at (parent_of path) (put_in (offset_of path) []))) xs
-stands-below xs i [] some = absurd (some refl)
-stands-below xs i (next ∷ path) some = refl
-
-root-stands : (xs : List Item) → Is (stands xs [])
+root-stands : (xs : List Item) → Is (room_at xs [])
 root-stands xs = put_in-room 0 [] xs (omega arith)
 
 offset-stays : (s offset count o : ℕ) (parent : List ℕ) → cut (s ∷ parent) offset count (o ∷ []) ≡ o ∷ []
@@ -120,11 +103,11 @@ offset-stays s offset count o parent =
     none (x ∷ parent) = refl
 
 -- a position in the tree is carried to one in the tree
-pub carried_in : (parent : List ℕ) (offset count : ℕ) (xs ys run : List Item) (position : List ℕ) → at parent (take_out offset count) xs ≡ Some (ys, run) → Is (stands xs position) → Is (stands ys (cut parent offset count position))
+pub carried_in : (parent : List ℕ) (offset count : ℕ) (xs ys run : List Item) (position : List ℕ) → at parent (take_out offset count) xs ≡ Some (ys, run) → Is (room_at xs position) → Is (room_at ys (cut parent offset count position))
 carried_in [] offset count xs ys run [] e h = root-stands ys
 carried_in [] offset count xs ys run (o ∷ []) e h = go (nat_le (offset + count) o) (nat_le offset o) refl refl
   where
-    go : (t u : Bool) → t ≡ nat_le (offset + count) o → u ≡ nat_le offset o → Is (stands ys (if t then (o - count) ∷ [] else (if u then offset ∷ [] else o ∷ [])))
+    go : (t u : Bool) → t ≡ nat_le (offset + count) o → u ≡ nat_le offset o → Is (room_at ys (if t then (o - count) ∷ [] else (if u then offset ∷ [] else o ∷ [])))
     go true u t v = put_in-room (o - count) [] ys (omega (arith, put_in-fits o [] xs h, out-length offset count xs ys run e))
     go false true t v = put_in-room offset [] ys (out-room offset count xs ys run e)
     go false false t v = (let less : o < offset = grind (arith, nat_tests) in put_in-room o [] ys (omega (arith, less, out-room offset count xs ys run e)))
@@ -133,18 +116,18 @@ carried_in [] offset count xs ys run (i ∷ next ∷ path) e h =
     go (nat_le (offset + count) i) (nat_le offset i) refl refl a.item a.children a.there a.here ((a.new, tt), a.made)
   where
     go : (t u : Bool) → t ≡ nat_le (offset + count) i → u ≡ nat_le offset i → (item : Item) (children : List Item) → slice_get xs i ≡ Some item → inner item ≡ Some children
-        → Is (at (parent_of (next ∷ path)) (put_in (offset_of (next ∷ path)) []) children) → Is (stands ys (if t then (i - count) ∷ next ∷ path else (if u then offset ∷ [] else i ∷ next ∷ path)))
+        → Is (at (parent_of (next ∷ path)) (put_in (offset_of (next ∷ path)) []) children) → Is (room_at ys (if t then (i - count) ∷ next ∷ path else (if u then offset ∷ [] else i ∷ next ∷ path)))
     go true u t v item children there here made =
-        index-is ys (i - count) item children (at (parent_of (next ∷ path)) (put_in (offset_of (next ∷ path)) []))
+        at_index-is ys (i - count) item children (at (parent_of (next ∷ path)) (put_in (offset_of (next ∷ path)) []))
         (get-behind offset count xs ys run i e (grind (arith, nat_tests)) ∙ there) here made
     go false true t v item children there here made = put_in-room offset [] ys (out-room offset count xs ys run e)
     go false false t v item children there here made =
-        index-is ys i item children (at (parent_of (next ∷ path)) (put_in (offset_of (next ∷ path)) []))
+        at_index-is ys i item children (at (parent_of (next ∷ path)) (put_in (offset_of (next ∷ path)) []))
         (get-before offset count xs ys run i e (grind (arith, nat_tests)) ∙ there) here made
 carried_in (s ∷ parent) offset count xs ys run [] e h = root-stands ys
 carried_in (s ∷ parent) offset count xs ys run (o ∷ []) e h =
     let a = inside xs s (at parent (take_out offset count)) ys run e in
-    subst (λ p. Is (stands ys p)) (sym (offset-stays s offset count o parent))
+    subst (λ p. Is (room_at ys p)) (sym (offset-stays s offset count o parent))
     (put_in-room o [] ys (omega (arith, put_in-fits o [] xs h, ap length a.whole, length-set xs s (with_inner a.new a.item))))
 carried_in (s ∷ parent) offset count xs ys run (i ∷ next ∷ path) e h =
     let a = inside xs s (at parent (take_out offset count)) ys run e in
@@ -156,12 +139,12 @@ carried_in (s ∷ parent) offset count xs ys run (i ∷ next ∷ path) e h =
           let deep = carried_in parent offset count a.children a.new run (next ∷ path) a.made ((b.new, tt), ap (at (parent_of (next ∷ path)) (put_in (offset_of (next ∷ path)) [])) (sym kids) ∙ b.made) in
           let lower = cut parent offset count (next ∷ path) in
           let some : lower ≢ [] = cut-some parent offset count (next ∷ path) (λ f. cc) in
-          subst (λ p. Is (stands ys p)) (sym (ap (λ v. cut (s ∷ parent) offset count (v ∷ next ∷ path)) (sym same) ∙ within-same s parent (next ∷ path) (rule_remove offset count)))
+          subst (λ p. Is (room_at ys p)) (sym (ap (λ v. cut (s ∷ parent) offset count (v ∷ next ∷ path)) (sym same) ∙ within-same s parent (next ∷ path) (rule_remove offset count)))
           (subst Is (sym (stands-below ys s lower some))
-          (index-is ys s (with_inner a.new a.item) a.new (at (parent_of lower) (put_in (offset_of lower) []))
+          (at_index-is ys s (with_inner a.new a.item) a.new (at (parent_of lower) (put_in (offset_of lower) []))
           (ap (λ zs. slice_get zs s) (sym a.whole) ∙ get-set xs s a.item (with_inner a.new a.item) a.there)
           (inner-with_inner a.item a.children a.new a.here) deep)))
-      | inr apart ↦ subst (λ p. Is (stands ys p)) (sym (within-other s i parent (next ∷ path) (rule_remove offset count) apart))
-          (index-is ys i b.item b.children (at (parent_of (next ∷ path)) (put_in (offset_of (next ∷ path)) []))
+      | inr apart ↦ subst (λ p. Is (room_at ys p)) (sym (within-other s i parent (next ∷ path) (rule_remove offset count) apart))
+          (at_index-is ys i b.item b.children (at (parent_of (next ∷ path)) (put_in (offset_of (next ∷ path)) []))
           (ap (λ zs. slice_get zs i) (sym a.whole) ∙ get-other xs s i (with_inner a.new a.item) apart ∙ b.there) b.here ((b.new, tt), b.made))
     ]

@@ -3,7 +3,8 @@ use Rattle.std.proofs.Common.{◌≡◌, ℕ, zero, suc, ◌+◌, ◌<◌, ◌�
 use Rattle.item_definitions.specs.Item.{Item, character, element, list_of, inner, with_inner, count_of, item_depth, depth_of}
 use Rattle.item_definitions.specs.Children.{at}
 use Rattle.operation_definitions.specs.Level.{put_in}
-use Rattle.operation_definitions.proofs.Levels.{replaced, three}
+use Rattle.operation_definitions.proofs.Levels.{replaced}
+use Rattle.ck_base.proofs.Common.{in_three}
 use Rattle.model_tree.specs.Limits.{IsTree, changed, StaysTree}
 use Rattle.model_tree.proofs.Counts.{count-append, depth-append, depth-inner}
 use Rattle.model_tree.proofs.AtPaths.{inside}
@@ -29,7 +30,7 @@ level-depth offset new xs ys r e =
     let a = take offset xs in
     let run = take 0 (drop offset xs) in
     let c = drop (offset + 0) xs in
-    omega (arith, ap depth_of d.result, three-depth a d.new c, ap depth_of (three offset 0 xs), three-depth a run c, ap depth_of (came new run d.new r d.gives), depth-append new run)
+    omega (arith, ap depth_of d.result, three-depth a d.new c, ap depth_of (in_three offset 0 xs), three-depth a run c, ap depth_of (came new run d.new r d.gives), depth-append new run)
 
 deeper : (item : Item) (children new : List Item) (n : ℕ) → inner item ≡ Some children → depth_of new ≡ max (depth_of children) n → item_depth (with_inner new item) ≡ max (item_depth item) (1 + n)
 deeper (character scalar attributes) children new n e h = absurd cc

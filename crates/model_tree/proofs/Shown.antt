@@ -7,7 +7,7 @@ use Rattle.model_tree.specs.Parts.{TextParts, HeadParts}
 use Rattle.model_tree.specs.Nodes.{characters}
 use Rattle.model_tree.specs.Reading.{shown_character, shown_element, shown_of}
 use Rattle.model_tree.proofs.Counts.{count-inner, length-characters}
-use Rattle.item_definitions.proofs.Sizes.{count-list}
+use Rattle.item_definitions.proofs.Sizes.{count-list, length-count}
 use Rattle.model_tree.proofs.AtPaths.{through}
 
 pub character_shown : (read : List ℕ) (text : TextParts) (index scalar : ℕ) (attributes : Attributes) → read ≡ text.scalars → attributes ≡ text.attributes → index < length (characters text)
@@ -21,19 +21,18 @@ character_shown read text index scalar attributes same also less found =
     go (first ∷ scalars) zero less e = ap (λ s. Some (shown_character s text.attributes)) e
     go (first ∷ scalars) (suc index) less e = go scalars index (omega arith) e
 
+-- (by a name that a contract's `using` can take)
 pub length_count : (items : List Item) → length items ≤ count_of items
-length_count [] = omega arith
-length_count (character scalar attributes ∷ items) = omega (arith, length_count items)
-length_count (element id name attributes children ∷ items) = omega (arith, length_count items)
+length_count items = length-count items
 
 pub element_few : (head : HeadParts) (children : List Item) → count_of (element head.id head.name head.attributes (items_of children) ∷ []) < 2 ^ 32 → length children < 2 ^ 32
-element_few head children few = omega (arith, few, count-inner children, length_count children)
+element_few head children few = omega (arith, few, count-inner children, length-count children)
 
 pub element_shown : (head : HeadParts) (children : List Item) (index count : ℕ) → index < 1 → count_of (element head.id head.name head.attributes (items_of children) ∷ []) < 2 ^ 32
     → count ≡ min (length children) (2 ^ 64 - 1)
     → Some (shown_element head count) ≡ option_map shown_of (slice_get (element head.id head.name head.attributes (items_of children) ∷ []) index)
 element_shown head children zero count less few c =
-    let all : count ≡ length children = omega (arith, c, count-inner children, length_count children) in
+    let all : count ≡ length children = omega (arith, c, count-inner children, length-count children) in
     ap (λ n. Some (shown_element head n)) (all ∙ ap length (sym (list_of-items_of children)))
 element_shown head children (suc index) count less few c = absurd (omega arith)
 

@@ -3,7 +3,7 @@ use Rattle.std.specs.Prelude.{ℕ, ◌<◌, ◌≤◌, ◌^◌, List, [], ◌∷
 use Rattle.item_definitions.specs.Item.{Item, count_of, depth_of}
 use Rattle.item_definitions.specs.Children.{parent_of, offset_of, at}
 use Rattle.operation_definitions.specs.Level.{put_in, take_out, rename_at, split_at, merge_at}
-use Rattle.operation_definitions.specs.After.{shell_of, stands}
+use Rattle.operation_definitions.specs.After.{shell_of, room_at}
 use Rattle.item_definitions.specs.Shift.{carry_remove}
 
 -- fewer than 2^32 items, at most 64 levels deep
@@ -41,5 +41,5 @@ merged path items = if nat_lt 0 (offset_of path) then option_map (λ made. (made
 -- or the target isn't there.
 abbrev pub moved : List ℕ → ℕ → List ℕ → List Item → Option (List Item)
 moved from count to items =
-    option_and_then (λ taken. option_and_then (λ _. changed (at (parent_of (carry_remove from count to)) (put_in (offset_of (carry_remove from count to)) taken.1) taken.0)) (stands items to))
+    option_and_then (λ taken. option_and_then (λ _. changed (at (parent_of (carry_remove from count to)) (put_in (offset_of (carry_remove from count to)) taken.1) taken.0)) (room_at items to))
     (at (parent_of from) (take_out (offset_of from) count) items)

@@ -1,7 +1,7 @@
 //! Moving a run of items.
 ghost use Rattle.std.specs.Prelude.{◌≡◌, [], ◌∷◌, ◌++◌, is_some, IfOk, OnOk};
 ghost use Rattle.item_definitions.specs.Shift.{carry_remove, rest_behind};
-ghost use Rattle.operation_definitions.specs.After.{stands};
+ghost use Rattle.operation_definitions.specs.After.{room_at};
 ghost use Rattle.model_tree.specs.Places.{Gives};
 ghost use Rattle.model_tree.specs.Limits.{moved};
 
@@ -46,7 +46,7 @@ impl Items {
     /// Whether a position is there.
     #[tactic(auto, using(crate::proofs::Removed::place_there, crate::proofs::Removed::place_nowhere, crate::proofs::Removed::place_short))]
     fn has_place(&self, parent: &[u32], offset: u32) -> bool
-        ensures { result ≡ is_some (stands self.now (parent.now ++ offset ∷ [])) }
+        ensures { result ≡ is_some (room_at self.now (parent.now ++ offset ∷ [])) }
     {
         match self.list_at(parent) {
             Some(level) => level.has_run(offset, 0),

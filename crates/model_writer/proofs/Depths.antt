@@ -10,19 +10,12 @@ use Rattle.item_definitions.specs.Children.{parent_of, offset_of, children_at, i
 use Rattle.item_definitions.specs.Position.{not_after, behind}
 use Rattle.item_definitions.proofs.Order.{behind-push, not_after-cons, not_after-parent}
 use Rattle.item_definitions.proofs.Paths.{path-joined}
+use Rattle.item_definitions.proofs.Sizes.{count-list, depth-list, within-item}
 use Rattle.operation_definitions.proofs.Names.{same_numbers, numbers_same}
 use Rattle.document_definitions.specs.Selection.{same_position}
 use Rattle.operation_definitions.proofs.Lifting.{then-some}
 use Rattle.edit_definitions.specs.Places.{is_there, is_range, are_in_one, is_element}
 use Rattle.model_writer.proofs.PlaceTests.{there-at}
-
-depth-list : (children : Items) → inner_depth children ≡ depth_of (list_of children)
-depth-list none = refl
-depth-list (more item items) = ap (max (item_depth item)) (depth-list items)
-
-count-list : (children : Items) → inner_count children ≡ count_of (list_of children)
-count-list none = refl
-count-list (more item items) = ap (λ n. item_count item + n) (count-list items)
 
 one-deep : (item : Item) → 1 ≤ item_depth item
 one-deep (character scalar attributes) = omega arith
@@ -31,14 +24,6 @@ one-deep (element id name attributes children) = omega arith
 one-counted : (item : Item) → 1 ≤ item_count item
 one-counted (character scalar attributes) = omega arith
 one-counted (element id name attributes children) = omega arith
-
-inner-less : (item : Item) (items : List Item) → inner item ≡ Some items → (depth_of items + 1 ≤ item_depth item) × (count_of items + 1 ≤ item_count item)
-inner-less (character scalar attributes) items e = absurd cc
-inner-less (element id name attributes children) items e =
-    let same : list_of children ≡ items = cc in
-    let depth : inner_depth children ≡ depth_of items = depth-list children ∙ ap depth_of same in
-    let count : inner_count children ≡ count_of items = count-list children ∙ ap count_of same in
-    (omega (arith, depth), omega (arith, count))
 
 in-list : (xs : List Item) (index : ℕ) (item : Item) → slice_get xs index ≡ Some item → (item_depth item ≤ depth_of xs) × (item_count item ≤ count_of xs) × (index + 1 ≤ count_of xs)
 in-list [] index item e = absurd cc
@@ -53,7 +38,7 @@ item-bounds (index ∷ next ∷ path) xs item e =
     let a = then-some (λ x. option_and_then (item_at (next ∷ path)) (inner x)) (slice_get xs index) item e in
     let b = then-some (item_at (next ∷ path)) (inner a.0) item a.2 in
     let l = in-list xs index a.0 a.1 in
-    let w = inner-less a.0 b.0 b.1 in
+    let w = within-item a.0 b.0 b.1 in
     let rest = item-bounds (next ∷ path) b.0 item b.2 in
     (omega (arith, l.0, w.0, rest.0), omega (arith, l.1, w.1, rest.1))
 
@@ -85,7 +70,7 @@ level-deep (index ∷ path) xs level e =
     let a = then-some (λ x. option_and_then (children_at path) (inner x)) (slice_get xs index) level e in
     let b = then-some (children_at path) (inner a.0) level a.2 in
     let l = in-list xs index a.0 a.1 in
-    let w = inner-less a.0 b.0 b.1 in
+    let w = within-item a.0 b.0 b.1 in
     let rest = level-deep path b.0 level b.2 in
     omega (arith, l.0, w.0, rest)
 

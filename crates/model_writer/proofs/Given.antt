@@ -11,7 +11,8 @@ use Rattle.item_definitions.specs.Children.{parent_of, offset_of, children_at}
 use Rattle.item_definitions.specs.Position.{Range, between, behind, not_after}
 use Rattle.item_definitions.proofs.Order.{behind-push, not_after-cons, not_after-parent}
 use Rattle.item_definitions.proofs.Paths.{path-joined}
-use Rattle.model_tree.proofs.Shown.{level_few, length_count}
+use Rattle.model_tree.proofs.Shown.{level_few}
+use Rattle.item_definitions.proofs.Sizes.{length-count}
 use Rattle.edit_definitions.specs.Runs.{Run, runs_of, items_of_range, attribute_runs, give_in}
 use Rattle.edit_definitions.specs.Planned.{count_in}
 
@@ -33,7 +34,7 @@ before_behind path some =
 pub run_fits : (items level run : List Item) (parent : List ℕ) (start count : ℕ) → run ≡ take count (drop start level) → Some level ≡ children_at parent items → count_of items < 2 ^ 32 → start < 2 ^ 32 → start + length run < 2 ^ 32
 run_fits items level run parent start count is there few small =
     let a = level_few parent items level (sym there) in
-    let b = length_count level in
+    let b = length-count level in
     let long : length run ≡ length (take count (drop start level)) = ap (λ (xs : List Item). length xs) is in
     let c = length-take count (drop start level) in
     let d = length-drop start level in

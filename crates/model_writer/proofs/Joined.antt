@@ -5,6 +5,7 @@ use Rattle.std.proofs.lemmas.List.{reverse-append, length-append, append-nil}
 use Rattle.std.proofs.lemmas.List.Concat.{flat_map-append}
 use Rattle.ck_base.specs.declared.value.Value.{Value as AttributeValue}
 use Rattle.ck_base.specs.Entries.{value_of}
+use Rattle.ck_base.proofs.Common.{second}
 use Rattle.item_definitions.specs.Item.{Item, attributes_of}
 use Rattle.operation_definitions.specs.After.{same_value}
 use Rattle.operation_definitions.proofs.Values.{same_value-true, same_value-own}
@@ -40,10 +41,6 @@ together new run next front e same =
     ∙ ap (λ v. record { from = run.from; to = next.to; old = v } ∷ reverse front) (same_value-true next.old run.old (second (next.from == run.to) (same_value next.old run.old) same))
     ∙ sym (put-in new run (reverse (front ++ next ∷ [])) e ∙ ap (with_run run) (reverse-push front next)
     ∙ ap (λ t. if t then record { from = run.from; to = next.to; old = run.old } ∷ reverse front else run ∷ next ∷ reverse front) same)
-  where
-    second : (a b : Bool) → (a && b) ≡ true → b ≡ true
-    second true b e = e
-    second false b e = absurd cc
 
 -- one more item in front of a run
 joined-alone : (offset : ℕ) (old : Option AttributeValue) (runs : List Run) → joined offset old runs ≡ with_run (record { from = offset; to = offset + 1; old = old }) runs
@@ -124,7 +121,7 @@ pub record IsPartway (key : List ℕ) (new : Option AttributeValue) (start end :
   pub ends : end ≡ start + length (items_in rest)
   pub makes : runs_onto key new start (items_in rest) (reverse runs) ≡ whole
 
-items-push : (before : List Node) (node : Node) → items_in (before ++ node ∷ []) ≡ items_in before ++ items_at node
+pub items-push : (before : List Node) (node : Node) → items_in (before ++ node ∷ []) ≡ items_in before ++ items_at node
 items-push before node = flat_map-append items_at before (node ∷ []) ∙ ap (λ xs. items_in before ++ xs) (append-nil (items_at node))
 
 pub partway_none : (key : List ℕ) (new : Option AttributeValue) (start end : ℕ) (nodes : List Node) (items : List Item) → IsNormal nodes → items_in nodes ≡ items → end ≡ start + length items

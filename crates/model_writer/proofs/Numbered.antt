@@ -2,6 +2,8 @@
 use Rattle.std.proofs.Common.{◌≡◌, ◌≢◌, ℕ, zero, suc, ◌+◌, ◌-◌, ◌<◌, ◌≤◌, ◌^◌, min, List, [], ◌∷◌, ◌++◌, map, length, take, drop, get_or, refl, sym, ap, ◌∙◌, subst, arith}
 use Rattle.std.proofs.lemmas.List.{length-append, append-nil, take-append-drop, take_more, length-drop, length-take}
 use Rattle.std.proofs.lemmas.List.Concat.{flat_map-append}
+use Rattle.model_writer.proofs.Joined.{items-push}
+use Rattle.model_doc.proofs.NextIds.{ids-inner, ids-characters}
 use Rattle.item_definitions.specs.Item.{Item, Attributes, character, element, more, items_of, count_of, depth_of}
 use Rattle.document_definitions.specs.Document.{ids_of, ids_of_item, ids_of_inner}
 use Rattle.edit_definitions.specs.Runs.{item_with_ids, inner_with_ids, with_ids}
@@ -11,7 +13,7 @@ use Rattle.model_tree.specs.declared.items.Node.TheVariants.{Run, Element}
 use Rattle.model_tree.specs.Parts.{TextParts, HeadParts}
 use Rattle.model_tree.specs.Nodes.{characters, items_at, items_in, IsNormal}
 use Rattle.model_tree.proofs.Counts.{count-append, count-inner, depth-append, depth-inner}
-use Rattle.model_tree.proofs.Shown.{length_count}
+use Rattle.item_definitions.proofs.Sizes.{length-count}
 
 -- how many ids there are
 pub ids-append : (front back : List Item) → length (ids_of (front ++ back)) ≡ length (ids_of front) + length (ids_of back)
@@ -22,31 +24,20 @@ ids-append (item ∷ front) back =
     let b = length-append (ids_of_item item) (ids_of front) in
     omega (arith, rest, a, b)
 
-inner-ids : (items : List Item) → ids_of_inner (items_of items) ≡ ids_of items
-inner-ids [] = refl
-inner-ids (item ∷ items) = ap (λ ids. ids_of_item item ++ ids) (inner-ids items)
-
-pub text-none : (attributes : Attributes) (scalars : List ℕ) → ids_of (map (λ scalar. character scalar attributes) scalars) ≡ []
-text-none attributes [] = refl
-text-none attributes (scalar ∷ scalars) = text-none attributes scalars
-
 pub text_ids : (node : Node) (text : TextParts) → node ≡ Run text → length (ids_of (items_at node)) ≡ 0
-text_ids node text is = ap (λ n. length (ids_of (items_at n))) is ∙ ap (λ (ids : List ℕ). length ids) (text-none text.attributes text.scalars)
+text_ids node text is = ap (λ n. length (ids_of (items_at n))) is ∙ ap (λ (ids : List ℕ). length ids) (ids-characters text.attributes text.scalars)
 
-pub one-element : (id : ℕ) (name : List ℕ) (attributes : Attributes) (children : List Item) → length (ids_of (element id name attributes (items_of children) ∷ [])) ≡ 1 + length (ids_of children)
+one-element : (id : ℕ) (name : List ℕ) (attributes : Attributes) (children : List Item) → length (ids_of (element id name attributes (items_of children) ∷ [])) ≡ 1 + length (ids_of children)
 one-element id name attributes children =
     let a = length-append (id ∷ ids_of_inner (items_of children)) [] in
-    let b = ap (λ (ids : List ℕ). length ids) (inner-ids children) in
+    let b = ap (λ (ids : List ℕ). length ids) (ids-inner children) in
     omega (arith, a, b)
 
 pub element_ids : (node : Node) (head : HeadParts) (children among : List Item) → node ≡ Element head children → among ≡ children → length (ids_of (items_at node)) ≡ 1 + length (ids_of among)
 element_ids node head children among is same =
     ap (λ n. length (ids_of (items_at n))) is ∙ one-element head.id head.name head.attributes children ∙ ap (λ (xs : List Item). 1 + length (ids_of xs)) (sym same)
 
-items-push : (before : List Node) (node : Node) → items_in (before ++ node ∷ []) ≡ items_in before ++ items_at node
-items-push before node = flat_map-append items_at before (node ∷ []) ∙ ap (λ xs. items_in before ++ xs) (append-nil (items_at node))
-
-pub taken-more : (nodes : List Node) (index : ℕ) (node : Node) → index < length nodes → node ≡ get_or nodes index node → items_in (take (index + 1) nodes) ≡ items_in (take index nodes) ++ items_at node
+taken-more : (nodes : List Node) (index : ℕ) (node : Node) → index < length nodes → node ≡ get_or nodes index node → items_in (take (index + 1) nodes) ≡ items_in (take index nodes) ++ items_at node
 taken-more nodes index node less here =
     ap items_in (take_more nodes index node less ∙ ap (λ n. take index nodes ++ n ∷ []) (sym here)) ∙ items-push (take index nodes) node
 
@@ -85,14 +76,14 @@ split-count half items = ap count_of (sym (take-append-drop half items)) ∙ cou
 pub front_less : (half : ℕ) (items : List Item) → half < length items → count_of (take half items) < count_of items
 front_less half items less =
     let a = split-count half items in
-    let b = length_count (drop half items) in
+    let b = length-count (drop half items) in
     let c = length-drop half items in
     omega (arith, a, b, c)
 
 pub back_less : (half : ℕ) (items : List Item) → 0 < half → half < length items → count_of (drop half items) < count_of items
 back_less half items some less =
     let a = split-count half items in
-    let b = length_count (take half items) in
+    let b = length-count (take half items) in
     let c = length-take half items in
     omega (arith, a, b, c)
 

@@ -7,24 +7,25 @@ use Rattle.ck_base.specs.declared.value.Value.{Value as AttributeValue}
 use Rattle.ck_base.specs.declared.faults.EditFault.{EditFault}
 use Rattle.ck_base.specs.declared.faults.EditFault.TheVariants.{NotRegistered, BadPosition, BadRange, BadTarget, MarkerExists, MarkerUnknown, IdsSpent}
 use Rattle.ck_base.specs.Entries.{value_of}
+use Rattle.ck_base.proofs.Common.{first_and_second}
 use Rattle.item_definitions.specs.Item.{Item, Attributes, character}
 use Rattle.item_definitions.specs.Children.{parent_of, offset_of, child_count, item_at}
-use Rattle.item_definitions.specs.Position.{Range, between, behind, not_after, IsPlace, IsRange}
+use Rattle.item_definitions.specs.Position.{Range, between, behind, not_after, IsPlace, IsRange, path_before}
 use Rattle.item_definitions.specs.FlatParts.{flat_parts}
 use Rattle.operation_definitions.specs.Operation.{Operation, in_tree, in_cell, fresh, insert, move, attribute, rename, split, merge, marker}
 use Rattle.operation_definitions.specs.Reversed.{HasPlaces}
 use Rattle.document_definitions.specs.Selection.{same_position, same_range}
 use Rattle.document_definitions.specs.Document.{State, ids_of, applied}
-use Rattle.document_definitions.specs.Sound.{IsSound, ids_in}
+use Rattle.document_definitions.specs.Sound.{IsSound, ids_in, IsWelcome}
 use Rattle.document_definitions.proofs.Soundness.{keeps_soundness}
 use Rattle.edit_definitions.specs.declared.edit.Edit.{Edit}
 use Rattle.edit_definitions.specs.declared.edit.Edit.TheVariants.{InsertText, InsertElement, Remove, Move, SetAttribute, RemoveAttribute, Rename, Split, Merge, Wrap, Unwrap, AddMarker, UpdateMarker, RemoveMarker, Select, SelectionAttribute, InsertItems}
 use Rattle.edit_definitions.specs.declared.edit.Target.{Target}
-use Rattle.edit_definitions.specs.Places.{is_there, is_range, are_in_one, is_element, path_before, is_between, is_known}
+use Rattle.edit_definitions.specs.Places.{is_there, is_range, are_in_one, is_element, is_between, is_known}
 use Rattle.edit_definitions.specs.Planned.{◌>>=◌, check, ids_left, count_in, insertion, empty_element, removals, moved_run, parts_of, given_to, name_of, renaming, unknown_in, known_names, marker_of, operations_of}
 use Rattle.edit_definitions.specs.Runs.{Run, runs_of, items_of_range, attribute_runs, give_in, with_ids}
-use Rattle.model_doc.specs.Conditions.{IsWelcome, AreWelcome}
-use Rattle.model_writer.proofs.Numbered.{text-none}
+use Rattle.model_doc.specs.Conditions.{AreWelcome}
+use Rattle.model_doc.proofs.NextIds.{ids-characters}
 use Rattle.edit_definitions.proofs.Drawn.{ids-numbered, distinct-from, known-from}
 
 -- an operation that brings nothing
@@ -69,18 +70,15 @@ quiet-places (split position source) quiet = absurd quiet
 quiet-places (merge right target cell) quiet = tt
 quiet-places (marker name old new) quiet = tt
 
-still-sound : (operation : Operation) (state made : State) → IsSound state → HasPlaces operation → IsWelcome operation state → applied operation state ≡ Ok made → IsSound made
-still-sound operation state made sound places welcome e = keeps_soundness operation state made sound (record { places = places; fresh = welcome.fresh; known = welcome.known; ranged = welcome.ranged }) e
-
 all-quiet : (operations : List Operation) (state : State) → IsSound state → AllQuiet operations → AreWelcome operations state
 all-quiet [] state sound quiet = tt
 all-quiet (operation ∷ operations) state sound quiet =
     let welcome = quiet-welcome operation state sound quiet.0 in
-    (welcome, λ made e. all-quiet operations made (still-sound operation state made sound (quiet-places operation quiet.0) welcome e) quiet.1)
+    (welcome, λ made e. all-quiet operations made (keeps_soundness operation state made sound (quiet-places operation quiet.0) welcome e) quiet.1)
 
 -- a first operation that may bring something, and then others that bring nothing
 then-quiet : (operation : Operation) (operations : List Operation) (state : State) → IsSound state → HasPlaces operation → IsWelcome operation state → AllQuiet operations → AreWelcome (operation ∷ operations) state
-then-quiet operation operations state sound places welcome quiet = (welcome, λ made e. all-quiet operations made (still-sound operation state made sound places welcome e) quiet)
+then-quiet operation operations state sound places welcome quiet = (welcome, λ made e. all-quiet operations made (keeps_soundness operation state made sound places welcome e) quiet)
 
 -- items that come in with new ids
 insert-welcome : (at : List ℕ) (items : List Item) (count : ℕ) (state : State) → IsSound state → ids_of items ≡ range_with_len state.document.next_id count → state.document.next_id + count ≤ 2 ^ 63 → IsWelcome (insert at items) state
@@ -127,10 +125,6 @@ there-place items (number ∷ path) e = ((λ same. cc), go (child_count items (p
     go None e = absurd cc
     go (Some count) e = grind (arith, nat_tests)
 
-both : (a b : Bool) → (a && b) ≡ true → (a ≡ true) × (b ≡ true)
-both true b e = (refl, e)
-both false b e = absurd cc
-
 record Ranged (items : List Item) (start end : List ℕ) : Type 0 where
   first : is_there items start ≡ true
   last : is_there items end ≡ true
@@ -138,8 +132,8 @@ record Ranged (items : List Item) (start end : List ℕ) : Type 0 where
 
 ranged : (items : List Item) (start end : List ℕ) → is_range items start end ≡ true → Ranged items start end
 ranged items start end e =
-    let a = both (is_there items start && is_there items end) (not_after start end) e in
-    let b = both (is_there items start) (is_there items end) a.0 in
+    let a = first_and_second (is_there items start && is_there items end) (not_after start end) e in
+    let b = first_and_second (is_there items start) (is_there items end) a.0 in
     record { first = b.0; last = b.1; order = a.1 }
 
 pub range_there : (items : List Item) (start end : List ℕ) → is_range items start end ≡ true → IsRange (child_count items) (between start end)
@@ -165,7 +159,7 @@ if-quiet true operation quiet = tt
 if-quiet false operation quiet = (quiet, tt)
 
 text-welcome : (at text : List ℕ) (attributes : Attributes) (state : State) → IsSound state → AreWelcome (insertion at (map (λ scalar. character scalar attributes) text)) state
-text-welcome at text attributes state sound = go (map (λ scalar. character scalar attributes) text) (text-none attributes text)
+text-welcome at text attributes state sound = go (map (λ scalar. character scalar attributes) text) (ids-characters attributes text)
   where
     go : (items : List Item) → ids_of items ≡ [] → AreWelcome (insertion at items) state
     go [] ids = tt
@@ -213,7 +207,7 @@ planned registered number (Move start end to) state sound =
     (λ flat. after-check state (not (is_between start end to)) (BadTarget number to) last
     (λ _. all-quiet (moved_run start end to) state sound
     (if-quiet (same_position start end || same_position to start || same_position to end) (move (in_tree start) (count_in start end) (in_tree to))
-    (let r = ranged state.document.items start end (both (is_range state.document.items start end) (are_in_one start end) flat).0 in (there-some state.document.items start r.first, there-some state.document.items to there))))))
+    (let r = ranged state.document.items start end (first_and_second (is_range state.document.items start end) (are_in_one start end) flat).0 in (there-some state.document.items start r.first, there-some state.document.items to there))))))
 planned registered number (SetAttribute target key value) state sound = given-welcome number target key (Some value) state sound
 planned registered number (RemoveAttribute target key) state sound = given-welcome number target key None state sound
 planned registered number (Rename path name) state sound =
@@ -247,7 +241,7 @@ planned registered number (Wrap start end name attributes) state sound =
     (λ flat. after-check state (nat_le (state.document.next_id + 1) (2 ^ 63)) (IdsSpent number) last
     (λ left. then-quiet (insert end items) (if same_position start end then [] else run ∷ []) state sound tt (insert-welcome end items 1 state sound refl (left-over state.document.next_id 1 left))
     (if-quiet (same_position start end) run
-    (let r = ranged state.document.items start end (both (is_range state.document.items start end) (are_in_one start end) flat).0 in (there-some state.document.items start r.first, pushed-some end 0))))))
+    (let r = ranged state.document.items start end (first_and_second (is_range state.document.items start end) (are_in_one start end) flat).0 in (there-some state.document.items start r.first, pushed-some end 0))))))
 planned registered number (Unwrap path) state sound =
     let count = unwrap_or (child_count state.document.items path) 0 in
     let items = move (in_tree (path ++ 0 ∷ [])) count (in_tree (behind path)) in

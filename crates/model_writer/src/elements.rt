@@ -4,7 +4,8 @@ ghost use Rattle.item_definitions.specs.Children.{child_count};
 ghost use Rattle.operation_definitions.specs.Operation as meant;
 ghost use Rattle.schema_definitions.specs.Allowed.{is_registered};
 ghost use Rattle.edit_definitions.specs.declared.edit.Edit.TheVariants.{Rename, Split, Merge};
-ghost use Rattle.edit_definitions.specs.Places.{is_element, path_before};
+ghost use Rattle.edit_definitions.specs.Places.{is_element};
+ghost use Rattle.item_definitions.specs.Position.{path_before};
 ghost use Rattle.edit_definitions.specs.Planned.{operations_of, renaming};
 ghost use Rattle.model_writer.specs.Plans.{Plans};
 

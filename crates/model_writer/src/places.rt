@@ -3,7 +3,8 @@ ghost use Rattle.std.specs.Prelude.{◌≡◌, ◌≢◌, ◌∷◌, [], ◌&&�
 ghost use Rattle.item_definitions.specs.Position.{not_after};
 ghost use Rattle.ck_base.specs.declared.faults.EditFault.TheVariants.{NotRegistered, BadPosition, BadRange, BadTarget, NoMemory as OutOfMemory};
 ghost use Rattle.schema_definitions.specs.Allowed.{is_registered};
-ghost use Rattle.edit_definitions.specs.Places.{is_there, is_range, are_in_one, is_element, is_between, is_generic, is_known};
+ghost use Rattle.edit_definitions.specs.Places.{is_there, is_range, are_in_one, is_element, is_between, is_known};
+ghost use Rattle.ck_base.specs.Name.{is_generic};
 
 use ck_base::faults::EditFault;
 use ck_base::name::Name;

@@ -1,6 +1,7 @@
 -- What is in the cells after one is filled or emptied.
 use Rattle.std.proofs.Common.{◌≡◌, ◌≢◌, ℕ, zero, suc, ◌<◌, ◌≤◌, Bool, true, false, ◌&&◌, nat_lt, nat_le, ◌==◌, if◌then◌else◌, List, [], ◌∷◌, ◌++◌, length, get_or, set, refl, sym, ap, ◌∙◌, arith, length-append, length-set}
 use Rattle.std.proofs.lemmas.Bool.Decides.{nat_tests}
+use Rattle.ck_base.proofs.Common.{first, second}
 use Rattle.item_definitions.specs.Item.{Item}
 use Rattle.operation_definitions.specs.After.{in_cell_at, is_empty, is_free, fill, holds_count}
 
@@ -8,19 +9,11 @@ none-if_empty : (xs : List Item) → is_empty xs ≡ true → xs ≡ []
 none-if_empty [] e = refl
 none-if_empty (x ∷ xs) e = absurd cc
 
-first-true : (a b : Bool) → (a && b) ≡ true → a ≡ true
-first-true true b e = refl
-first-true false b e = e
-
-second-true : (a b : Bool) → (a && b) ≡ true → b ≡ true
-second-true true b e = e
-second-true false b e = absurd cc
-
 pub free-empty : (cells : List (List Item)) (n : ℕ) → is_free cells n ≡ true → in_cell_at cells n ≡ []
-free-empty cells n e = none-if_empty (in_cell_at cells n) (second-true (nat_le n (length cells)) (is_empty (in_cell_at cells n)) e)
+free-empty cells n e = none-if_empty (in_cell_at cells n) (second (nat_le n (length cells)) (is_empty (in_cell_at cells n)) e)
 
 pub free-room : (cells : List (List Item)) (n : ℕ) → is_free cells n ≡ true → n ≤ length cells
-free-room cells n e = let t = first-true (nat_le n (length cells)) (is_empty (in_cell_at cells n)) e in grind (arith, nat_tests)
+free-room cells n e = let t = first (nat_le n (length cells)) (is_empty (in_cell_at cells n)) e in grind (arith, nat_tests)
 
 pub if-same : {X : Type 0} (k n : ℕ) (a b : X) → k ≡ n → (if k == n then a else b) ≡ a
 if-same k n a b e = ap (λ t. if t then a else b) (yes k n e)
@@ -91,10 +84,10 @@ emptied-at cells n k items free =
     go false t = refl
 
 pub holds-room : (cells : List (List Item)) (n count : ℕ) → holds_count cells n count ≡ true → n < length cells
-holds-room cells n count e = let t = first-true (nat_lt n (length cells)) (length (in_cell_at cells n) == count) e in grind (arith, nat_tests)
+holds-room cells n count e = let t = first (nat_lt n (length cells)) (length (in_cell_at cells n) == count) e in grind (arith, nat_tests)
 
 pub holds-long : (cells : List (List Item)) (n count : ℕ) → holds_count cells n count ≡ true → length (in_cell_at cells n) ≡ count
-holds-long cells n count e = let t = second-true (nat_lt n (length cells)) (length (in_cell_at cells n) == count) e in grind (arith, nat_tests)
+holds-long cells n count e = let t = second (nat_lt n (length cells)) (length (in_cell_at cells n) == count) e in grind (arith, nat_tests)
 
 -- a cell that was emptied is free, and filled again it has what it had
 pub emptied-free : (cells : List (List Item)) (n : ℕ) → n < length cells → is_free (set cells n []) n ≡ true

@@ -7,7 +7,7 @@ use Rattle.item_definitions.specs.Children.{Change, parent_of, offset_of, item_a
 use Rattle.item_definitions.specs.Position.{behind}
 use Rattle.operation_definitions.specs.Level.{replace, one_item, put_in, rename_at, split_at, split_item, merge_items, merge_at}
 use Rattle.operation_definitions.specs.Operation.{Fault, Operation, rename, split, merge, fresh, from_cell, no_place, cell_state, not_neighbours, old_differs, found_name}
-use Rattle.operation_definitions.specs.After.{◌>>=◌, check, effect, in_cell_at, is_free, fill, like, shell_of, stands}
+use Rattle.operation_definitions.specs.After.{◌>>=◌, check, effect, in_cell_at, is_free, fill, like, shell_of, room_at}
 use Rattle.operation_definitions.specs.Reversed.{IsTakenBack, IsLimited, cell_then}
 use Rattle.operation_definitions.proofs.Lifting.{at-back, at-gives, at-also, at-push, map-some, then-some}
 use Rattle.operation_definitions.proofs.Levels.{rename-back, split-back, merge-back, item-there, split-some, replaced}
@@ -147,7 +147,7 @@ shell-is (character scalar attributes ∷ next ∷ rest) shell e = absurd cc
 shell-is (element id name attributes none ∷ next ∷ rest) shell e = absurd cc
 shell-is (element id name attributes (more item items) ∷ next ∷ rest) shell e = absurd cc
 
-cell-there : (cells : List (List Item)) (n : ℕ) (shell : Item) → in_cell_at cells n ≡ shell ∷ [] → n < length cells
+pub cell-there : (cells : List (List Item)) (n : ℕ) (shell : Item) → in_cell_at cells n ≡ shell ∷ [] → n < length cells
 cell-there [] n shell e = absurd cc
 cell-there (cell ∷ cells) zero shell e = omega arith
 cell-there (cell ∷ cells) (suc n) shell e = (let less : n < length cells = cell-there cells n shell e in omega arith)
@@ -162,9 +162,9 @@ from_cell-reversed items cells position number made cell limits e =
     let last : List Item × Item → Result State Fault = λ m. Ok (m.0, set cells number []) in
     let next : Item → Result State Fault = λ shell. ok_or (at above (change shell) items) no_place >>= last in
     let first : List Item × Unit {0} → Result State Fault = λ _. ok_or (shell_of held) (cell_state number) >>= next in
-    let a = step-ok (check (nat_le 2 (length position)) no_place) (λ _. ok_or (stands items position) no_place >>= first) made e in
+    let a = step-ok (check (nat_le 2 (length position)) no_place) (λ _. ok_or (room_at items position) no_place >>= first) made e in
     let long = two (length position) (check-true (nat_le 2 (length position)) no_place a.0 a.1) in
-    let b = step-ok (ok_or (stands items position) no_place) first made a.2 in
+    let b = step-ok (ok_or (room_at items position) no_place) first made a.2 in
     let c = step-ok (ok_or (shell_of held) (cell_state number)) next made b.2 in
     let shell = c.0 in
     let bare = shell-is held shell (ok_or-some (shell_of held) (cell_state number) shell c.1) in
@@ -234,12 +234,12 @@ parted items made cells target above index offset number shell known e held bare
     let first : List Item × Unit {0} → Result State Fault = λ _. ok_or (shell_of held_at) (cell_state number) >>= next in
     let result : Result State Fault = Ok (made, set cells number []) in
     let place = at-also (split_at index offset (λ _. shell)) (at_index index (in_item (put_in offset []))) (stands-there index offset shell) above items made shell e in
-    let there : stands items target ≡ Some place.0 =
+    let there : room_at items target ≡ Some place.0 =
     (λ t. at (target-parent above target index offset known t) (put_in (target-offset above target index offset known t) []) items) ∙ at-push above index (put_in offset []) items ∙ place.1 in
     let split : at (parent_of (parent_of target)) (change shell) items ≡ Some (made, shell) =
     (λ t. at (target-above above target index offset known t) (split_at (target-index above target index offset known t) (target-offset above target index offset known t) (λ _. shell)) items) ∙ e in
-    step-check (nat_le 2 (length target)) no_place (λ _. ok_or (stands items target) no_place >>= first) result (yes (length target) (target-long above target index offset known))
-    (step-some (stands items target) no_place first place.0 result there
+    step-check (nat_le 2 (length target)) no_place (λ _. ok_or (room_at items target) no_place >>= first) result (yes (length target) (target-long above target index offset known))
+    (step-some (room_at items target) no_place first place.0 result there
     (step-some (shell_of held_at) (cell_state number) next shell result (ap shell_of held ∙ bare)
     (step-some (at (parent_of (parent_of target)) (change shell) items) no_place last (made, shell) result split refl)))
   where

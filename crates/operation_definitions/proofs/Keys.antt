@@ -9,39 +9,12 @@ use Rattle.std.proofs.lemmas.Cmp.{tied_itself}
 use Rattle.ck_base.specs.declared.value.Value.{Value as AttributeValue}
 use Rattle.ck_base.specs.Entries.{name_cmp, IsOrdered, value_of, with_value, without}
 use Rattle.ck_base.proofs.Places.{same_name}
+use Rattle.ck_base.proofs.Common.{both, first, second, less}
+use Rattle.ck_base.proofs.Ordered.{none_before, before_all}
+use Rattle.ck_base.proofs.Lookups.{gone}
 use Rattle.operation_definitions.specs.Level.{with_key}
 
-both : (a b : Bool) → a ≡ true → b ≡ true → (a && b) ≡ true
-both true b p q = q
-both false b p q = p
-
-first : (a b : Bool) → (a && b) ≡ true → a ≡ true
-first true b p = refl
-first false b p = p
-
-second : (a b : Bool) → (a && b) ≡ true → b ≡ true
-second true b p = p
-second false b p = cc
-
-less : (o : Ordering) → is_lt o ≡ true → o ≡ Less
-less Less e = refl
-less Equal e = cc
-less Greater e = cc
-
 module _ {V : Type 0} where
-  none_before : (key : List ℕ) (entries : List (List ℕ × V)) → below_all name_cmp key entries ≡ true → value_of key entries ≡ None
-  none_before key [] h = refl
-  none_before key (e ∷ rest) h =
-      let before : name_cmp key e.0 ≡ Less = less (name_cmp key e.0) (first (is_lt (name_cmp key e.0)) (below_all name_cmp key rest) h) in
-      rw before (none_before key rest (second (is_lt (name_cmp key e.0)) (below_all name_cmp key rest) h))
-
-  before_all : (key x : List ℕ) (entries : List (List ℕ × V)) → name_cmp key x ≡ Less → below_all name_cmp x entries ≡ true → below_all name_cmp key entries ≡ true
-  before_all key x [] p h = refl
-  before_all key x (e ∷ rest) p h =
-      let next : name_cmp x e.0 ≡ Less = less (name_cmp x e.0) (first (is_lt (name_cmp x e.0)) (below_all name_cmp x rest) h) in
-      let before : name_cmp key e.0 ≡ Less = nat_list_cmp_total.trans key x e.0 p next in
-      both (is_lt (name_cmp key e.0)) (below_all name_cmp key rest) (ap is_lt before) (before_all key x rest p (second (is_lt (name_cmp x e.0)) (below_all name_cmp x rest) h))
-
   -- a key before the first one has no value
   absent : (key : List ℕ) (e : List ℕ × V) (rest : List (List ℕ × V)) → IsOrdered (e ∷ rest) → name_cmp key e.0 ≡ Less → value_of key rest ≡ None
   absent key e rest h p = none_before key rest (before_all key e.0 rest p (first (below_all name_cmp e.0 rest) (is_sorted name_cmp rest) h))
@@ -90,15 +63,6 @@ module _ {V : Type 0} where
         | Less ↦ λ p. rw (p, p) refl
         | Equal ↦ λ p. (let f : Some e.1 ≡ None = rw p at g in absurd cc)
         | Greater ↦ λ p. (let f : value_of key rest ≡ None = rw p at g in rw (p, p) (ap (λ r. e ∷ r) (without-without key rest (second (below_all name_cmp e.0 rest) (is_sorted name_cmp rest) h) f)))
-      ] refl
-
-  gone : (key : List ℕ) (entries : List (List ℕ × V)) → IsOrdered entries → value_of key (without key entries) ≡ None
-  gone key [] h = refl
-  gone key (e ∷ rest) h =
-      elim (name_cmp key e.0) as (λ o. name_cmp key e.0 ≡ o → value_of key (without key (e ∷ rest)) ≡ None) [
-        | Less ↦ λ p. rw (p, p) (absent key e rest h p)
-        | Equal ↦ λ p. rw p (none_before key rest (subst (λ k. below_all name_cmp k rest ≡ true) (sym (same_name key e.0 p)) (first (below_all name_cmp e.0 rest) (is_sorted name_cmp rest) h)))
-        | Greater ↦ λ p. rw (p, p) (gone key rest (second (below_all name_cmp e.0 rest) (is_sorted name_cmp rest) h))
       ] refl
 
 -- the old value again

@@ -3,6 +3,7 @@ use Rattle.std.proofs.Common.{◌≡◌, ℕ, zero, suc, ◌+◌, ◌-◌, ◌�
 use Rattle.std.specs.Option.{option_map_or}
 use Rattle.std.proofs.lemmas.List.{take-append-drop}
 use Rattle.std.proofs.lemmas.Bool.Decides.{nat_tests}
+use Rattle.ck_base.proofs.Common.{drop_none, drop_add, in_three}
 use Rattle.item_definitions.specs.Item.{Item, character, element, inner, with_inner}
 use Rattle.item_definitions.specs.Children.{Change}
 use Rattle.operation_definitions.specs.Level.{replace, put_in, take_out, rename_at, split_at, merge_at, one_item, renamed, split_item, merge_items}
@@ -18,21 +19,6 @@ drop-front (x ∷ a) b = drop-front a b
 
 drop-both : {X : Type 0} (a b c : List X) → drop (length a + length b) (a ++ (b ++ c)) ≡ c
 drop-both a b c = ap (λ n. drop n (a ++ (b ++ c))) (sym (length-append a b)) ∙ ap (drop (length (a ++ b))) (sym (append_assoc a b c)) ∙ drop-front (a ++ b) c
-
-pub drop-none : {X : Type 0} (n : ℕ) → drop {A = X} n [] ≡ []
-drop-none zero = refl
-drop-none (suc n) = refl
-
-pub drop-add : {X : Type 0} (offset count : ℕ) (xs : List X) → drop (offset + count) xs ≡ drop count (drop offset xs)
-drop-add zero count xs = (let e : 0 + count ≡ count = omega arith in ap (λ n. drop n xs) e)
-drop-add (suc offset) count [] = drop-none (suc offset + count) ∙ sym (drop-none count)
-drop-add (suc offset) count (x ∷ xs) = (let e : suc offset + count ≡ suc (offset + count) = omega arith in ap (λ n. drop n (x ∷ xs)) e ∙ drop-add offset count xs)
-
--- a list in three: what is before a run, the run, and what is behind it
-pub three : {X : Type 0} (offset count : ℕ) (xs : List X) → take offset xs ++ (take count (drop offset xs) ++ drop (offset + count) xs) ≡ xs
-three offset count xs =
-    ap (λ rest. take offset xs ++ (take count (drop offset xs) ++ rest)) (drop-add offset count xs)
-    ∙ ap (λ rest. take offset xs ++ rest) (take-append-drop count (drop offset xs)) ∙ take-append-drop offset xs
 
 pub most : (a b : ℕ) → a ≤ b → nat_le a b ≡ true
 most a b h = grind (arith, nat_tests)
@@ -85,7 +71,7 @@ replace-back offset count again f g r s back xs ys e =
     let middle : length run ≡ count = omega (arith, length-take count (drop offset xs), length-drop offset xs, h.room) in
     let turned = back run h.new middle h.gives in
     subst (λ zs. replace offset again g zs ≡ Some (xs, s)) h.result
-    ((λ t. replace (sym front t) (sym turned.0 t) g (a ++ (h.new ++ c))) ∙ replace-three g a h.new c run s turned.1 ∙ ap (λ zs. Some (zs, s)) (three offset count xs))
+    ((λ t. replace (sym front t) (sym turned.0 t) g (a ++ (h.new ++ c))) ∙ replace-three g a h.new c run s turned.1 ∙ ap (λ zs. Some (zs, s)) (in_three offset count xs))
 
 -- the parts of what an option has
 abbrev first : {R : Type 0} → Option (List Item × R) → List Item

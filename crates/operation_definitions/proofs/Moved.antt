@@ -7,7 +7,7 @@ use Rattle.item_definitions.specs.Shift.{to_next, carry_insert, carry_remove, fo
 use Rattle.item_definitions.proofs.Paths.{path-joined}
 use Rattle.operation_definitions.specs.Level.{put_in, take_out}
 use Rattle.operation_definitions.specs.Operation.{Fault, move, in_tree, no_place, into_itself}
-use Rattle.operation_definitions.specs.After.{◌>>=◌, check, effect, in_cell_at, stands, is_in_run}
+use Rattle.operation_definitions.specs.After.{◌>>=◌, check, effect, in_cell_at, room_at, is_in_run}
 use Rattle.operation_definitions.specs.Reversed.{IsTakenBack, IsLimited}
 use Rattle.operation_definitions.proofs.Lifting.{at-back, at-also}
 use Rattle.operation_definitions.proofs.Levels.{put_in-back, take_out-back}
@@ -33,16 +33,16 @@ also-empty offset run xs ys r e = put_in-room offset [] xs (put_in-fits offset r
 
 -- what a move in the tree gives whose steps are known
 moved : (items left made run : List Item) (cells : List (List Item)) (from to : List ℕ) (count : ℕ) (there : List Item × Unit {0})
-    → at (parent_of from) (take_out (offset_of from) count) items ≡ Some (left, run) → stands items to ≡ Some there → is_in_run from count to ≡ false
+    → at (parent_of from) (take_out (offset_of from) count) items ≡ Some (left, run) → room_at items to ≡ Some there → is_in_run from count to ≡ false
     → at (parent_of (carry_remove from count to)) (put_in (offset_of (carry_remove from count to)) run) left ≡ Some (made, tt)
     → effect items cells (move (in_tree from) count (in_tree to)) ≡ Ok (made, cells)
 moved items left made run cells from to count there e f g h =
     let target = carry_remove from count to in
     let last : List Item × List Item → Result State Fault = λ taken. ok_or (at (parent_of target) (put_in (offset_of target) taken.1) taken.0) no_place >>= (λ m. Ok (m.0, cells)) in
-    let next : List Item × List Item → Result State Fault = λ taken. ok_or (stands items to) no_place >>= (λ _. check (not (is_in_run from count to)) into_itself >>= (λ _. last taken)) in
+    let next : List Item × List Item → Result State Fault = λ taken. ok_or (room_at items to) no_place >>= (λ _. check (not (is_in_run from count to)) into_itself >>= (λ _. last taken)) in
     let result : Result State Fault = Ok (made, cells) in
     step-some (at (parent_of from) (take_out (offset_of from) count) items) no_place next (left, run) result e
-    (step-some (stands items to) no_place (λ _. check (not (is_in_run from count to)) into_itself >>= (λ _. last (left, run))) there result f
+    (step-some (room_at items to) no_place (λ _. check (not (is_in_run from count to)) into_itself >>= (λ _. last (left, run))) there result f
     (step-check (not (is_in_run from count to)) into_itself (λ _. last (left, run)) result (ap not g)
     (step-some (at (parent_of target) (put_in (offset_of target) run) left) no_place (λ m. Ok (m.0, cells)) (made, tt) result h refl)))
 
@@ -52,12 +52,12 @@ pub move-reversed : (items : List Item) (cells : List (List Item)) (from : List 
 move-reversed items cells from count to made cell limits some some_to e =
     let target = carry_remove from count to in
     let last : List Item × List Item → Result State Fault = λ taken. ok_or (at (parent_of target) (put_in (offset_of target) taken.1) taken.0) no_place >>= (λ m. Ok (m.0, cells)) in
-    let next : List Item × List Item → Result State Fault = λ taken. ok_or (stands items to) no_place >>= (λ _. check (not (is_in_run from count to)) into_itself >>= (λ _. last taken)) in
+    let next : List Item × List Item → Result State Fault = λ taken. ok_or (room_at items to) no_place >>= (λ _. check (not (is_in_run from count to)) into_itself >>= (λ _. last taken)) in
     let a = step-ok (ok_or (at (parent_of from) (take_out (offset_of from) count) items) no_place) next made e in
     let left = a.0.0 in
     let run = a.0.1 in
     let taken = ok_or-some (at (parent_of from) (take_out (offset_of from) count) items) no_place a.0 a.1 in
-    let b = step-ok (ok_or (stands items to) no_place) (λ _. check (not (is_in_run from count to)) into_itself >>= (λ _. last (left, run))) made a.2 in
+    let b = step-ok (ok_or (room_at items to) no_place) (λ _. check (not (is_in_run from count to)) into_itself >>= (λ _. last (left, run))) made a.2 in
     let c = step-ok (check (not (is_in_run from count to)) into_itself) (λ _. last (left, run)) made b.2 in
     let out = not-true (is_in_run from count to) (check-true (not (is_in_run from count to)) into_itself c.0 c.1) in
     let d = step-ok (ok_or (at (parent_of target) (put_in (offset_of target) run) left) no_place) (λ m. Ok (m.0, cells)) made c.2 in
@@ -76,8 +76,8 @@ move-reversed items cells from count to made cell limits some some_to e =
     (subst (λ t. at (parent_of target) (take_out (offset_of target) (length run)) t ≡ Some (left, run)) tree take_again) in
     let put_again = at-back (take_out (offset_of from) count) (put_in (offset_of from) run) run tt (take_out-back (offset_of from) count run) (parent_of from) items left taken in
     let stood = at-also (put_in (offset_of from) run) (put_in (offset_of from) []) (also-empty (offset_of from) run) (parent_of from) left items tt put_again in
-    let stays_there = subst (λ n. Is (stands made.0 (put (parent_of target) (offset_of target) n from))) long
-    (subst (λ t. Is (stands t (put (parent_of target) (offset_of target) (length run) from))) tree
+    let stays_there = subst (λ n. Is (room_at made.0 (put (parent_of target) (offset_of target) n from))) long
+    (subst (λ t. Is (room_at t (put (parent_of target) (offset_of target) (length run) from))) tree
     (stays (parent_of target) (offset_of target) run left d.0.0 from put_there stood)) in
     let home : carry_remove target count back_to ≡ from = put-cut (parent_of target) (offset_of target) count from in
     taken_back items cells (move (in_tree from) count (in_tree to)) made cell limits made.1

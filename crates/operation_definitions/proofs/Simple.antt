@@ -78,7 +78,7 @@ pub run-long : (items left run : List Item) (from : List ℕ) (count : ℕ) → 
 run-long items left run from count e = at-gives (λ (r : List Item). length r ≡ count) (take_out (offset_of from) count) (take_out-long (offset_of from) count) (parent_of from) items left run e
 
 -- what the items of a cell give where they come in
-pub paste : (items made : List Item) (cells : List (List Item)) (to : List ℕ) (count number : ℕ) (run : List Item)
+paste : (items made : List Item) (cells : List (List Item)) (to : List ℕ) (count number : ℕ) (run : List Item)
     → holds_count cells number count ≡ true → in_cell_at cells number ≡ run → at (parent_of to) (put_in (offset_of to) run) items ≡ Some (made, tt)
     → effect items cells (move (in_cell number) count (in_tree to)) ≡ Ok (made, set cells number [])
 paste items made cells to count number run full same e =

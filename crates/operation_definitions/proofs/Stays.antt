@@ -7,7 +7,7 @@ use Rattle.item_definitions.specs.Item.{Item, inner, with_inner}
 use Rattle.item_definitions.specs.Children.{Change, parent_of, offset_of, at, at_index, in_item}
 use Rattle.item_definitions.specs.Shift.{to_next, rule_insert}
 use Rattle.operation_definitions.specs.Level.{put_in}
-use Rattle.operation_definitions.specs.After.{stands}
+use Rattle.operation_definitions.specs.After.{room_at}
 use Rattle.operation_definitions.proofs.Lifting.{map-some, then-some, inner-with_inner, get-set}
 use Rattle.operation_definitions.proofs.Levels.{replaced, most}
 use Rattle.operation_definitions.proofs.Moves.{put, decide, insert-is, within-same, within-other}
@@ -25,7 +25,7 @@ put_in-room offset new xs room = (
 pub put_in-fits : (offset : ℕ) (new xs : List Item) → Is (put_in offset new xs) → offset ≤ length xs
 put_in-fits offset new xs h = (let r = replaced offset 0 (λ items. Some (new ++ items, tt)) xs h.0.0 tt h.1 in let room : offset + 0 ≤ length xs = r.room in omega arith)
 
-get-front : (a c : List Item) (i : ℕ) → i < length a → slice_get (a ++ c) i ≡ slice_get a i
+pub get-front : (a c : List Item) (i : ℕ) → i < length a → slice_get (a ++ c) i ≡ slice_get a i
 get-front [] c i less = absurd (omega arith)
 get-front (x ∷ a) c zero less = refl
 get-front (x ∷ a) c (suc i) less = get-front a c i (omega arith)
@@ -77,7 +77,7 @@ get-behind offset new xs ys i e least =
     ap (λ zs. slice_get zs (i + length new)) p.after ∙ get-back p.front (new ++ p.back) (i + length new) first ∙ get-back new p.back (i + length new - length p.front) second
     ∙ ap (slice_get p.back) same ∙ sym (ap (λ zs. slice_get zs i) p.before ∙ get-back p.front p.back i (omega (arith, p.long)))
 
-get-other : (xs : List Item) (i j : ℕ) (x : Item) → i ≢ j → slice_get (slice_set xs i x) j ≡ slice_get xs j
+pub get-other : (xs : List Item) (i j : ℕ) (x : Item) → i ≢ j → slice_get (slice_set xs i x) j ≡ slice_get xs j
 get-other [] i j x differ = refl
 get-other (y ∷ xs) zero zero x differ = absurd (differ refl)
 get-other (y ∷ xs) zero (suc j) x differ = refl
@@ -85,7 +85,7 @@ get-other (y ∷ xs) (suc i) zero x differ = refl
 get-other (y ∷ xs) (suc i) (suc j) x differ = get-other xs i j x (λ e. differ (ap suc e))
 
 -- the change of the item at an index that is there
-at_index-is : {R : Type 0} (xs : List Item) (i : ℕ) (item : Item) (children : List Item) (change : Change R) → slice_get xs i ≡ Some item → inner item ≡ Some children → Is (change children) → Is (at_index i (in_item change) xs)
+pub at_index-is : {R : Type 0} (xs : List Item) (i : ℕ) (item : Item) (children : List Item) (change : Change R) → slice_get xs i ≡ Some item → inner item ≡ Some children → Is (change children) → Is (at_index i (in_item change) xs)
 at_index-is {R = R} xs i item children change e f h = (
   (slice_set xs i (with_inner h.0.0 item), h.0.1),
   ap (option_and_then (λ item. option_map (λ (made : Item × R). (slice_set xs i made.0, made.1)) (in_item change item))) e
@@ -120,11 +120,11 @@ inside {R = R} xs i change ys r e =
       whole = ap (slice_set xs i) (ap (λ (p : Item × R). p.0) d.2) ∙ ap (λ (p : List Item × R). p.0) b.2;
     }
 
-root-stands : (xs : List Item) → Is (stands xs [])
+root-stands : (xs : List Item) → Is (room_at xs [])
 root-stands xs = put_in-room 0 [] xs (omega arith)
 
 -- a position that goes on below an item
-stands-below : (xs : List Item) (i : ℕ) (path : List ℕ) → path ≢ [] → stands xs (i ∷ path) ≡ at_index i (in_item (at (parent_of path) (put_in (offset_of path) []))) xs
+pub stands-below : (xs : List Item) (i : ℕ) (path : List ℕ) → path ≢ [] → room_at xs (i ∷ path) ≡ at_index i (in_item (at (parent_of path) (put_in (offset_of path) []))) xs
 stands-below xs i [] some = absurd (some refl)
 stands-below xs i (next ∷ path) some = refl
 
@@ -149,11 +149,11 @@ offset-stays s offset count o parent =
     none (x ∷ parent) = refl
 
 -- a position in the tree stays in it
-pub stays : (parent : List ℕ) (offset : ℕ) (new xs ys : List Item) (position : List ℕ) → at parent (put_in offset new) xs ≡ Some (ys, tt) → Is (stands xs position)
-    → Is (stands ys (put parent offset (length new) position))
+pub stays : (parent : List ℕ) (offset : ℕ) (new xs ys : List Item) (position : List ℕ) → at parent (put_in offset new) xs ≡ Some (ys, tt) → Is (room_at xs position)
+    → Is (room_at ys (put parent offset (length new) position))
 stays [] offset new xs ys [] e h = root-stands ys
 stays [] offset new xs ys (o ∷ []) e h =
-    subst (λ p. Is (stands ys p)) (sym (insert-is offset (length new) o []))
+    subst (λ p. Is (room_at ys p)) (sym (insert-is offset (length new) o []))
     (put_in-room (if nat_le offset o then o + length new else o) [] ys (room (nat_le offset o) (put_in-fits o [] xs h)))
   where
     room : (t : Bool) → o ≤ length xs → (if t then o + length new else o) ≤ length ys
@@ -164,7 +164,7 @@ stays [] offset new xs ys (i ∷ next ∷ path) e h =
     go (nat_le offset i) refl a.item a.children a.there a.here ((a.new, tt), a.made)
   where
     go : (t : Bool) → t ≡ nat_le offset i → (item : Item) (children : List Item) → slice_get xs i ≡ Some item → inner item ≡ Some children → Is (at (parent_of (next ∷ path)) (put_in (offset_of (next ∷ path)) []) children)
-        → Is (stands ys ((if t then i + length new else i) ∷ next ∷ path))
+        → Is (room_at ys ((if t then i + length new else i) ∷ next ∷ path))
     go true t item children there here made =
         at_index-is ys (i + length new) item children (at (parent_of (next ∷ path)) (put_in (offset_of (next ∷ path)) []))
         (get-behind offset new xs ys i e (grind (arith, nat_tests)) ∙ there) here made
@@ -174,7 +174,7 @@ stays [] offset new xs ys (i ∷ next ∷ path) e h =
 stays (s ∷ parent) offset new xs ys [] e h = root-stands ys
 stays (s ∷ parent) offset new xs ys (o ∷ []) e h =
     let a = inside xs s (at parent (put_in offset new)) ys tt e in
-    subst (λ p. Is (stands ys p)) (sym (offset-stays s offset (length new) o parent))
+    subst (λ p. Is (room_at ys p)) (sym (offset-stays s offset (length new) o parent))
     (put_in-room o [] ys (omega (arith, put_in-fits o [] xs h, ap length a.whole, length-set xs s (with_inner a.new a.item))))
 stays (s ∷ parent) offset new xs ys (i ∷ next ∷ path) e h =
     let a = inside xs s (at parent (put_in offset new)) ys tt e in
@@ -185,12 +185,12 @@ stays (s ∷ parent) offset new xs ys (i ∷ next ∷ path) e h =
           let kids : b.children ≡ a.children = (let f : Some b.children ≡ Some a.children = sym b.here ∙ ap inner one ∙ a.here in cc) in
           let deep = stays parent offset new a.children a.new (next ∷ path) a.made ((b.new, tt), ap (at (parent_of (next ∷ path)) (put_in (offset_of (next ∷ path)) [])) (sym kids) ∙ b.made) in
           let lower = put parent offset (length new) (next ∷ path) in
-          subst (λ p. Is (stands ys p)) (sym (ap (λ v. put (s ∷ parent) offset (length new) (v ∷ next ∷ path)) (sym same) ∙ within-same s parent (next ∷ path) (rule_insert offset (length new) to_next)))
+          subst (λ p. Is (room_at ys p)) (sym (ap (λ v. put (s ∷ parent) offset (length new) (v ∷ next ∷ path)) (sym same) ∙ within-same s parent (next ∷ path) (rule_insert offset (length new) to_next)))
           (subst Is (sym (stands-below ys s lower (put-some parent offset (length new) next path)))
           (at_index-is ys s (with_inner a.new a.item) a.new (at (parent_of lower) (put_in (offset_of lower) []))
           (ap (λ zs. slice_get zs s) (sym a.whole) ∙ get-set xs s a.item (with_inner a.new a.item) a.there)
           (inner-with_inner a.item a.children a.new a.here) deep)))
-      | inr apart ↦ subst (λ p. Is (stands ys p)) (sym (within-other s i parent (next ∷ path) (rule_insert offset (length new) to_next) apart))
+      | inr apart ↦ subst (λ p. Is (room_at ys p)) (sym (within-other s i parent (next ∷ path) (rule_insert offset (length new) to_next) apart))
           (at_index-is ys i b.item b.children (at (parent_of (next ∷ path)) (put_in (offset_of (next ∷ path)) []))
           (ap (λ zs. slice_get zs i) (sym a.whole) ∙ get-other xs s i (with_inner a.new a.item) apart ∙ b.there) b.here ((b.new, tt), b.made))
     ]

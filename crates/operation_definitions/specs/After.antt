@@ -20,8 +20,9 @@ most_items = 1000000
 abbrev pub most_levels : ℕ
 most_levels = 64
 
--- a step that may be refused, and what follows with its answer
 infixl 10 ◌>>=◌
+
+-- a step that may be refused, and what follows with its answer
 abbrev pub ◌>>=◌ : {A B : Type 0} → Result A Fault → (A → Result B Fault) → Result B Fault
 Ok x >>= next = next x
 Err fault >>= next = Err fault
@@ -65,9 +66,9 @@ abbrev pub like : ℕ → Item → Item
 like id (character scalar attributes) = character scalar attributes
 like id (element old name attributes children) = element id name attributes none
 
--- the position is there
-abbrev pub stands : List Item → List ℕ → Option (List Item × Unit {0})
-stands items position = at (parent_of position) (put_in (offset_of position) []) items
+-- there is room for items at a position: its parent is there, and its offset is at most the number of items there
+abbrev pub room_at : List Item → List ℕ → Option (List Item × Unit {0})
+room_at items position = at (parent_of position) (put_in (offset_of position) []) items
 
 -- the position is in the run of `count` items behind another one, or at an end of the run
 abbrev pub is_in_run : List ℕ → ℕ → List ℕ → Bool
@@ -102,7 +103,7 @@ effect items cells (insert position new) = do
   Ok (made.0, cells)
 effect items cells (move (in_tree from) count (in_tree to)) = do
   taken ← ok_or (at (parent_of from) (take_out (offset_of from) count) items) no_place
-  there ← ok_or (stands items to) no_place
+  there ← ok_or (room_at items to) no_place
   outside ← check (not (is_in_run from count to)) into_itself
   let target = carry_remove from count to
   made ← ok_or (at (parent_of target) (put_in (offset_of target) taken.1) taken.0) no_place
@@ -132,7 +133,7 @@ effect items cells (split position (fresh id)) = do
   Ok (made.0, cells)
 effect items cells (split position (from_cell number)) = do
   inside ← check (nat_le 2 (length position)) no_place
-  there ← ok_or (stands items position) no_place
+  there ← ok_or (room_at items position) no_place
   shell ← ok_or (shell_of (in_cell_at cells number)) (cell_state number)
   made ← ok_or (at (parent_of (parent_of position)) (split_at (offset_of (parent_of position)) (offset_of position) (λ _. shell)) items) no_place
   Ok (made.0, set cells number [])

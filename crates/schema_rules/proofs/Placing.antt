@@ -6,6 +6,7 @@ use Rattle.std.proofs.lemmas.List.{length_push}
 use Rattle.std.proofs.Math.Seq.{take-append_seam, drop-append_seam}
 use Rattle.ck_base.specs.declared.faults.Rule.{Rule}
 use Rattle.item_definitions.specs.Item.{Attributes, Item, Items, character, element, none, more, items_of, count_of, depth_of}
+use Rattle.item_definitions.proofs.Sizes.{length-count}
 use Rattle.model_tree.specs.Parts.{TextParts, HeadParts}
 use Rattle.model_tree.specs.declared.items.Node.{Node}
 use Rattle.model_tree.specs.Nodes.{characters, items_at, items_in}
@@ -68,19 +69,14 @@ there_front above index left xs ys e h =
       flat = omega (arith, h.flat, ap depth_of e, depth-append xs ys);
     }
 
-long : (items : List Item) → length items ≤ count_of items
-long [] = omega arith
-long (character scalar attributes ∷ items) = omega (arith, long items)
-long (element id name attributes children ∷ items) = omega (arith, long items)
-
 pub there_long : (above : Standing) (index : ℕ) (items : List Item) → AreThere above index items → index + length items < 2 ^ 32
-there_long above index items h = omega (arith, h.few, long items)
+there_long above index items h = omega (arith, h.few, length-count items)
 
 pub there_behind : (above : Standing) (index next : ℕ) (left xs ys : List Item) → left ≡ xs ++ ys → AreThere above index left → next ≡ index + length xs → AreThere above next ys
 there_behind above index next left xs ys e h n =
     record {
       named = h.named;
-      few = omega (arith, n, h.few, ap count_of e, count-append xs ys, long xs);
+      few = omega (arith, n, h.few, ap count_of e, count-append xs ys, length-count xs);
       flat = omega (arith, h.flat, ap depth_of e, depth-append xs ys);
     }
 

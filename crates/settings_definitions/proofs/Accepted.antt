@@ -35,7 +35,8 @@ use Rattle.converter_definitions.specs.Gives.{part, stock, Conversion, gift_if, 
 use Rattle.converter_read.specs.declared.plan.ConverterPlan.{ConverterPlan}
 use Rattle.converter_read.specs.declared.plan.PlanEntry.{PlanEntry}
 use Rattle.converter_read.specs.declared.plan.PlanEntry.TheVariants.{Stock, Boxed}
-use Rattle.converter_read.specs.PlanNames.{is_bare, is_unconditional, converts, is_reserved, first_unknown_item, first_unknown_custom, first_without_converter}
+use Rattle.converter_read.specs.PlanNames.{is_bare, is_unconditional, converts, first_unknown_item, first_unknown_custom, first_without_converter}
+use Rattle.ck_base.specs.Name.{is_generic}
 use Rattle.json_forms.specs.declared.fault.FormFault.{FormFault}
 use Rattle.settings_definitions.specs.declared.fault.SettingsFault.{SettingsFault}
 use Rattle.settings_definitions.specs.declared.fault.SettingsFault.TheVariants.{TwiceRegistered, UnknownItem, BadCheck, UnknownCustom, NoConverter}
@@ -147,7 +148,7 @@ converts_each : (handed_in : List (List ℕ)) (form : FileForm) → Accepted han
 converts_each handed_in form fine conversion serves items obeys path id name attributes children there free parent index =
     let allowed = (obeys_iff (rules_of form) items).0 obeys path (element id name attributes children) there in
     let known = standing_is_known (rules_of form) fine.known (ancestors_at path items) name allowed.stands in
-    let passes = all_pass (λ n. is_reserved n || converts form.converters n) (registered (rules_of form)) name fine.converted (registered_in_order (rules_of form) name known) in
+    let passes = all_pass (λ n. is_generic n || converts form.converters n) (registered (rules_of form)) name fine.converted (registered_in_order (rules_of form) name known) in
     let unconditional = found form.converters name (sym (ap (λ b. b || converts form.converters name) free) ∙ passes) in
     let shape = gives_shape conversion.objects name attributes parent index unconditional.plan.entry unconditional.fits in
     shaped conversion (record { name = name; attributes = attributes; parent = parent; index = index }) (stock shape.converter) shape.form serves.lawful

@@ -12,7 +12,7 @@ use Rattle.converter_definitions.specs.Facts.{is_left}
 use Rattle.converter_definitions.specs.Gives.{Converter, stock, boxed, Conversion, converted}
 use Rattle.converter_read.specs.declared.plan.ConverterPlan.{ConverterPlan}
 use Rattle.converter_read.specs.declared.plan.PlanEntry.TheVariants.{Stock}
-use Rattle.converter_read.specs.PlanNames.{is_reserved}
+use Rattle.ck_base.specs.Name.{is_generic}
 
 -- each converter that the plans describe themselves is among the converters, in whatever order
 abbrev pub AreListed : List ConverterPlan → List Converter → Type 0
@@ -37,4 +37,4 @@ pub record Serves (plans : List ConverterPlan) (conversion : Conversion) : Type 
 -- each element of a document whose name doesn't begin with `$`, as none does that an edit makes, is given a shape, whatever its parent and its index are
 abbrev pub AllConverted : Conversion → List Item → Type 0
 AllConverted conversion items = (path : List ℕ) (id : ℕ) (name : List ℕ) (attributes : Attributes) (children : Items) → item_at path items ≡ Some (element id name attributes children)
-    → is_reserved name ≡ false → (parent : List ℕ) (index : Option ℕ) → IsSome (converted conversion (record { name = name; attributes = attributes; parent = parent; index = index }))
+    → is_generic name ≡ false → (parent : List ℕ) (index : Option ℕ) → IsSome (converted conversion (record { name = name; attributes = attributes; parent = parent; index = index }))

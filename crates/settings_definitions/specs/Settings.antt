@@ -16,7 +16,8 @@ use Rattle.schema_definitions.specs.Allowed.{Rules, registrations, registered}
 use Rattle.schema_definitions.specs.Compiled.{predefined, first_repeated, first_unknown, first_bad_check}
 use Rattle.converter_read.specs.declared.plan.ConverterPlan.{ConverterPlan}
 use Rattle.converter_read.specs.ConverterForm.{converters_at}
-use Rattle.converter_read.specs.PlanNames.{is_reserved, first_unknown_item, first_unknown_custom, first_without_converter}
+use Rattle.converter_read.specs.PlanNames.{first_unknown_item, first_unknown_custom, first_without_converter}
+use Rattle.ck_base.specs.Name.{is_generic}
 use Rattle.converter_read.specs.Indexed.{indexed_names}
 use Rattle.settings_definitions.specs.declared.fault.SettingsFault.{SettingsFault}
 use Rattle.settings_definitions.specs.declared.fault.SettingsFault.TheVariants.{TwiceRegistered, UnknownItem, BadCheck, UnknownCustom, NoConverter}
@@ -91,7 +92,7 @@ items_of form = registrations (rules_of form).entries
 -- the start, unless it is one of these registered items and doesn't begin with `$`
 abbrev pub unknown_start : List (List ℕ) → Option (List ℕ) → Option (List ℕ)
 unknown_start items None = None
-unknown_start items (Some name) = if has items name && not (is_reserved name) then None else Some name
+unknown_start items (Some name) = if has items name && not (is_generic name) then None else Some name
 
 -- why the converters are refused beside rules that hold, where these products' converters are handed in
 abbrev pub converters_refusal : List (List ℕ) → Rules → List ConverterPlan → Option SettingsFault

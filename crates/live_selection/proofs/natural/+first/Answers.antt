@@ -5,7 +5,8 @@ use Rattle.model_tree.specs.Nodes.{items_at, items_in}
 use Rattle.model_tree.proofs.Counts.{count-append, count-inner, depth-append, depth-inner}
 use Rattle.model_tree.proofs.Steps.{from_on}
 use Rattle.live_selection.specs.Within.{first_from}
-use Rattle.live_selection.proofs.Looking.{found_here, found_behind, found_nowhere, found_no_more, long, dropped, element_inside, element_outside}
+use Rattle.live_selection.proofs.Looking.{found_here, found_behind, found_nowhere, found_no_more, dropped, element_inside, element_outside}
+use Rattle.item_definitions.proofs.Sizes.{length-count}
 use Rattle.live_selection.proofs.natural.+first.Goals as goal
 
 pub first_in_items-returns-then-are_before : goal.first_in_items-returns-then-are_before
@@ -36,7 +37,7 @@ first_in_items-overflow_cast-index t c =
     let index = c.loop-node.node-index in
     let rest = items_in (drop (index + 1) nodes) in
     let next = from_on nodes nodes index c.node-item.result refl (omega arith) c.node-item.is in
-    omega (arith, c.loop-node.invariant.few, ap count_of next, count-append (items_at c.node-item.result) rest, long (items_at c.node-item.result), c.len.ensures)
+    omega (arith, c.loop-node.invariant.few, ap count_of next, count-append (items_at c.node-item.result) rest, length-count (items_at c.node-item.result), c.len.ensures)
 
 pub first_in_items-overflow_add-index : goal.first_in_items-overflow_add-index
 first_in_items-overflow_add-index t c =
@@ -44,7 +45,7 @@ first_in_items-overflow_add-index t c =
     let index = c.loop-node.node-index in
     let rest = items_in (drop (index + 1) nodes) in
     let next = from_on nodes nodes index c.node-item.result refl (omega arith) c.node-item.is in
-    omega (arith, c.loop-node.invariant.few, ap count_of next, count-append (items_at c.node-item.result) rest, long (items_at c.node-item.result), c.len.ensures)
+    omega (arith, c.loop-node.invariant.few, ap count_of next, count-append (items_at c.node-item.result) rest, length-count (items_at c.node-item.result), c.len.ensures)
 
 pub first_in_items-loop-node-preserved : goal.first_in_items-loop-node-preserved
 first_in_items-loop-node-preserved t c =
@@ -53,7 +54,7 @@ first_in_items-loop-node-preserved t c =
     let rest = items_in (drop (index + 1) nodes) in
     let next = from_on nodes nodes index c.node-item.result refl (omega arith) c.node-item.is in
     record {
-      few = omega (arith, c.loop-node.invariant.few, ap count_of next, count-append (items_at c.node-item.result) rest, long (items_at c.node-item.result), c.len.ensures);
+      few = omega (arith, c.loop-node.invariant.few, ap count_of next, count-append (items_at c.node-item.result) rest, length-count (items_at c.node-item.result), c.len.ensures);
       found = found_behind c.args.bounds c.loop-node.index (c.loop-node.index + c.len.result) (items_in (drop index nodes)) (items_at c.node-item.result) rest next c.in_default.ensures (ap (λ n. c.loop-node.index + n) c.len.ensures)
           ∙ c.loop-node.invariant.found;
     }

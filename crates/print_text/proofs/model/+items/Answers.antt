@@ -2,7 +2,7 @@ use Rattle.std.proofs.Common.{◌+◌, ◌∙◌, drop, refl, ap, arith, string_
 use Rattle.item_definitions.specs.Item.{depth_of, count_of}
 use Rattle.model_tree.specs.Nodes.{items_at, items_in}
 use Rattle.model_tree.proofs.Counts.{depth-append, depth-inner, count-inner, count-characters}
-use Rattle.model_tree.proofs.Shown.{length_count}
+use Rattle.item_definitions.proofs.Sizes.{length-count}
 use Rattle.model_tree.proofs.Steps.{from_on}
 use Rattle.print_text.specs.Ends.{places_of}
 use Rattle.print_text.proofs.Runs.{dropped, put_node, few_items, within_all}
@@ -17,7 +17,7 @@ push_items-push_node-requires t c =
     let next = from_on nodes nodes index node refl (omega arith) c.node-item.is in (
       omega (arith, c.decreases, ap depth_of c.nodes.ensures.items, ap (λ nodes. depth_of (items_in nodes)) c.deref-node-items.ensures.value, dropped index nodes, ap depth_of next, depth-append (items_at node) rest),
       (
-        omega (arith, c.loop-node.invariant.offset, length_count c.args.items.now, c.requires.few),
+        omega (arith, c.loop-node.invariant.offset, length-count c.args.items.now, c.requires.few),
         few_items nodes index node rest c.args.items.now next (ap items_in c.deref-node-items.ensures.value ∙ c.nodes.ensures.items) c.requires.few,
       ),
     )
@@ -29,7 +29,7 @@ push_items-overflow_add-offset t c =
     let node = c.node-item.result in
     let rest = items_in (drop (index + 1) nodes) in
     let next = from_on nodes nodes index node refl (omega arith) c.node-item.is in
-    omega (arith, within_all (items_in (drop index nodes)) c.args.items.now c.loop-node.offset node rest next c.loop-node.invariant.offset, length_count c.args.items.now, c.requires.few, c.len.ensures)
+    omega (arith, within_all (items_in (drop index nodes)) c.args.items.now c.loop-node.offset node rest next c.loop-node.invariant.offset, length-count c.args.items.now, c.requires.few, c.len.ensures)
 
 pub push_items-loop-node-preserved : goal.push_items-loop-node-preserved
 push_items-loop-node-preserved t c =
