@@ -1,5 +1,5 @@
 -- Positions that are in a list of items, number by number, and what keeps them in it.
-use Rattle.std.proofs.Common.{◌≡◌, ◌≢◌, ℕ, zero, suc, ◌≤◌, inl, inr, List, [], ◌∷◌, length, Option, Some, None, IsSomeAnd, option_map, option_and_then, slice_get, slice_set, refl, sym, ap, ◌∙◌, subst, arith, length-set}
+use Rattle.std.proofs.Common.{◌≡◌, ◌≢◌, ℕ, ◌≤◌, inl, inr, List, [], ◌∷◌, length, Option, Some, None, IsSomeAnd, option_map, option_and_then, slice_get, slice_set, refl, sym, ap, ◌∙◌, subst, arith, length-set}
 use Rattle.std.specs.Prelude.{⊤}
 use Rattle.item_definitions.specs.Item.{Item, inner, with_inner}
 use Rattle.item_definitions.specs.Children.{Change, parent_of, offset_of, children_at, at, at_index, in_item}

@@ -8,7 +8,7 @@ use Rattle.item_definitions.specs.Item.{Item, Items, character, element, inner, 
 use Rattle.item_definitions.specs.Children.{Change, parent_of, offset_of, item_at, at}
 use Rattle.item_definitions.specs.Position.{Range, between, behind, holds, not_after, is_before}
 use Rattle.item_definitions.specs.Shift as shifts
-use Rattle.item_definitions.specs.Shift.{Shift, to_next, stay, remove, carry, carry_insert, carry_remove, carried_ends, carry_range, within, rest_behind, forward, lies_in_run, with_run, run_place, rule_insert, rule_remove, rule_split, rule_merge}
+use Rattle.item_definitions.specs.Shift.{Shift, to_next, carry, carry_insert, carry_remove, carried_ends, carry_range, within, rest_behind, forward, lies_in_run, with_run, run_place, rule_insert, rule_remove, rule_split, rule_merge}
 use Rattle.item_definitions.proofs.Paths.{path-joined, parent_of-push, offset_of-push, push-some}
 use Rattle.item_definitions.proofs.Order.{not_after-cons, not_after-none, not_after-same}
 use Rattle.operation_definitions.specs.Level.{put_in, take_out, give, given, with_key, one_item, renamed, rename_at, split_at, merge_at}

@@ -95,7 +95,7 @@ set-attributes [] index x y e f = absurd cc
 set-attributes (z ∷ xs) zero x y e f = (let same : z ≡ x = cc in ap (λ a. a ∷ map attributes_of xs) (f ∙ ap attributes_of (sym same)))
 set-attributes (z ∷ xs) (suc index) x y e f = ap (λ rest. attributes_of z ∷ rest) (set-attributes xs index x y e f)
 
-with_inner-attributes : (items : List Item) (item : Item) → attributes_of (with_inner items item) ≡ attributes_of item
+pub with_inner-attributes : (items : List Item) (item : Item) → attributes_of (with_inner items item) ≡ attributes_of item
 with_inner-attributes items (character scalar attributes) = refl
 with_inner-attributes items (element id name attributes children) = refl
 

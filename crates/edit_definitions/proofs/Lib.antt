@@ -13,3 +13,4 @@ pub mod Longest
 pub mod Given
 pub mod Reaching
 pub mod Rest
+pub mod Alone

@@ -1,5 +1,7 @@
 -- The items that an edit of an attribute reaches are in a run that changes, or have the new value already.
-use Rattle.std.proofs.Common.{◌≡◌, ◌≢◌, ℕ, zero, suc, ◌+◌, ◌-◌, ◌<◌, ◌≤◌, Bool, true, false, nat_eq, nat_le, nat_lt, ◌&&◌, ◌||◌, if◌then◌else◌, List, [], ◌∷◌, ◌++◌, map, length, take, drop, Option, Some, None, unwrap_or, slice_get, Result, Ok, Err, refl, sym, ap, ◌∙◌, subst, arith, length-take}
+use Rattle.std.proofs.Common.{◌≡◌, ◌≢◌, ℕ, zero, suc, ◌+◌, ◌-◌, ◌<◌, ◌≤◌, Bool, true, false, nat_eq, nat_le, nat_lt, ◌&&◌, ◌||◌, if◌then◌else◌, List, [], ◌∷◌}
+use Rattle.std.proofs.Common.{◌++◌, map, length, take, drop, Option, Some, None, unwrap_or, slice_get, Result, Ok, Err, refl, sym, ap, ◌∙◌, subst, arith}
+use Rattle.std.proofs.Common.{length-take}
 use Rattle.std.specs.Prelude.{is_some, option_and_then}
 use Rattle.std.specs.List.{list_any, flat_map}
 use Rattle.std.specs.Cmp.Lexicographic.{pointwise}
@@ -8,7 +10,7 @@ use Rattle.std.proofs.lemmas.List.Folds.{list_any-append}
 use Rattle.ck_base.specs.declared.value.Value.{Value as AttributeValue}
 use Rattle.ck_base.specs.declared.faults.EditFault.{EditFault}
 use Rattle.ck_base.specs.declared.faults.EditFault.TheVariants.{BadRange, BadTarget}
-use Rattle.ck_base.specs.Entries.{IsOrdered, value_of, ChangesOnly}
+use Rattle.ck_base.specs.Entries.{IsOrdered, value_of}
 use Rattle.item_definitions.specs.Item.{Item, inner, Attributes, attributes_of}
 use Rattle.item_definitions.specs.Children.{parent_of, offset_of, children_at, child_count, item_at}
 use Rattle.item_definitions.specs.Position.{Range, between, behind}
@@ -19,7 +21,7 @@ use Rattle.operation_definitions.specs.Operation.{Fault}
 use Rattle.operation_definitions.specs.After.{same_value}
 use Rattle.operation_definitions.specs.Reversed.{AreOrdered}
 use Rattle.operation_definitions.proofs.Lifting.{then-some}
-use Rattle.operation_definitions.proofs.Names.{same_numbers, numbers_same}
+use Rattle.operation_definitions.proofs.Names.{same_numbers}
 use Rattle.operation_definitions.proofs.Ordered.{item-keys, below-ordered, get-ordered}
 use Rattle.operation_definitions.proofs.Values.{same_value-true}
 use Rattle.document_definitions.specs.Selection.{same_position}
@@ -30,7 +32,7 @@ use Rattle.edit_definitions.specs.declared.edit.Target.TheVariants.{Range as InR
 use Rattle.edit_definitions.specs.Places.{is_range, is_element}
 use Rattle.edit_definitions.specs.Runs.{Run, runs_of, items_of_range, value_told, give_in}
 use Rattle.edit_definitions.specs.Planned.{◌>>=◌, check, parts_of, given_to}
-use Rattle.edit_definitions.specs.Performed.{as_step, limit_fault, performed}
+use Rattle.edit_definitions.specs.Performed.{as_step, performed}
 use Rattle.edit_definitions.specs.Given.{attribute_edit, is_of, is_reached, IsGiven, HasGiven}
 use Rattle.edit_definitions.proofs.Reached.{found, element-there}
 use Rattle.edit_definitions.proofs.Attributed.{Spot, spot_of, AreRunsOf, runs-found, spots_of, spots-changed, change_at}
@@ -38,7 +40,8 @@ use Rattle.edit_definitions.proofs.Longest.{told-exactly}
 use Rattle.edit_definitions.proofs.Given.{is_hit, spots-given}
 
 -- an item is in a run's range where the run tells its value
-told-runs : (parent path : List ℕ) (runs : List Run) → pointwise nat_eq parent (parent_of path) ≡ true → is_hit path (map (spot_of parent) runs) ≡ is_some (value_told (offset_of path) runs)
+told-runs : (parent path : List ℕ) (runs : List Run) → pointwise nat_eq parent (parent_of path) ≡ true → is_hit path (map (spot_of parent) runs)
+    ≡ is_some (value_told (offset_of path) runs)
 told-runs parent path [] e = refl
 told-runs parent path (run ∷ runs) e =
     let n = offset_of path in
@@ -46,7 +49,8 @@ told-runs parent path (run ∷ runs) e =
   where
     of-run : is_of path (between (parent ++ run.from ∷ []) (parent ++ run.to ∷ [])) ≡ (nat_le run.from (offset_of path) && nat_lt (offset_of path) run.to)
     of-run =
-        (λ t. pointwise nat_eq (parent_of-push parent run.from t) (parent_of path) && (nat_le (offset_of-push parent run.from t) (offset_of path) && nat_lt (offset_of path) (offset_of-push parent run.to t)))
+        (λ t. pointwise nat_eq (parent_of-push parent run.from t) (parent_of path) && (nat_le (offset_of-push parent run.from t) (offset_of path)
+        && nat_lt (offset_of path) (offset_of-push parent run.to t)))
         ∙ ap (λ b. b && (nat_le run.from (offset_of path) && nat_lt (offset_of path) run.to)) e
 
     go : (t : Bool) → (t || is_some (value_told (offset_of path) runs)) ≡ is_some (if t then Some run.old else value_told (offset_of path) runs)
@@ -56,12 +60,14 @@ told-runs parent path (run ∷ runs) e =
 none-told : (parent path : List ℕ) (runs : List Run) → pointwise nat_eq parent (parent_of path) ≡ false → is_hit path (map (spot_of parent) runs) ≡ false
 none-told parent path [] e = refl
 none-told parent path (run ∷ runs) e =
-    ap (λ b. (b && (nat_le (offset_of (parent ++ run.from ∷ [])) (offset_of path) && nat_lt (offset_of path) (offset_of (parent ++ run.to ∷ [])))) || is_hit path (map (spot_of parent) runs))
+    ap (λ b. (b && (nat_le (offset_of (parent ++ run.from ∷ [])) (offset_of path) && nat_lt (offset_of path) (offset_of (parent ++ run.to ∷ []))))
+    || is_hit path (map (spot_of parent) runs))
     (ap (λ p. pointwise nat_eq p (parent_of path)) (parent_of-push parent run.from) ∙ e)
     ∙ none-told parent path runs e
 
 -- and a run is within its items
-told-within : (key : List ℕ) (offset n : ℕ) (items : List Item) (runs : List Run) → AreRunsOf key offset items runs → is_some (value_told n runs) ≡ true → (offset ≤ n) × (n < offset + length items)
+told-within : (key : List ℕ) (offset n : ℕ) (items : List Item) (runs : List Run) → AreRunsOf key offset items runs → is_some (value_told n runs) ≡ true
+    → (offset ≤ n) × (n < offset + length items)
 told-within key offset n items [] h e = absurd cc
 told-within key offset n items (run ∷ runs) h e = go (nat_le run.from n && nat_lt n run.to) refl e (λ f. told-within key offset n items runs h.1 f)
   where
@@ -99,7 +105,8 @@ record Tells (hit has : Bool) (key : List ℕ) (new : Option AttributeValue) (ol
   whole : has ≡ true → hit ≡ false → value_of key old ≡ new
 
 part-tells : (key : List ℕ) (new : Option AttributeValue) (items : List Item) (part : Range) (path : List ℕ) (item : Item) → item_at path items ≡ Some item
-    → Tells (is_hit path (map (spot_of (parent_of part.start)) (runs_of key new (offset_of part.start) (items_of_range items part)))) (is_of path part) key new (attributes_of item)
+    → Tells (is_hit path (map (spot_of (parent_of part.start)) (runs_of key new (offset_of part.start) (items_of_range items part)))) (is_of path part) key new
+    (attributes_of item)
 part-tells key new items part path item there = go (pointwise nat_eq (parent_of part.start) (parent_of path)) refl
   where
     s : ℕ
@@ -147,9 +154,11 @@ part-tells key new items part path item there = go (pointwise nat_eq (parent_of 
               let b = less s e has in
               let f = found path items item there in
               let parent = same_numbers (parent_of part.start) (parent_of path) t in
-              let level : mine ≡ take (e - s) (drop s f.level) = ap (λ o. take (e - s) (drop s (unwrap_or o []))) (ap (λ p. children_at p items) parent ∙ f.there) in
+              let level : mine ≡ take (e - s) (drop s f.level) = ap (λ o. take (e - s) (drop s (unwrap_or o []))) (ap (λ p. children_at p items) parent
+              ∙ f.there) in
               let here : slice_get mine (n - s) ≡ Some item =
-              ap (λ xs. slice_get xs (n - s)) level ∙ get-taken (e - s) (n - s) (drop s f.level) (omega (arith, a, b)) ∙ get-dropped s (n - s) n f.level (omega (arith, a)) ∙ f.here in
+              ap (λ xs. slice_get xs (n - s)) level ∙ get-taken (e - s) (n - s) (drop s f.level) (omega (arith, a, b))
+              ∙ get-dropped s (n - s) n f.level (omega (arith, a)) ∙ f.here in
               let back : s + (n - s) ≡ n = omega (arith, a) in
               let exact = told-exactly key new s mine (n - s) item here in
               same_value-true (value_of key (attributes_of item)) new
@@ -158,21 +167,26 @@ part-tells key new items part path item there = go (pointwise nat_eq (parent_of 
         }
 
 -- so in all parts
-parts-tell : (key : List ℕ) (new : Option AttributeValue) (items : List Item) (parts : List Range) (path : List ℕ) (item : Item) → item_at path items ≡ Some item
+parts-tell : (key : List ℕ) (new : Option AttributeValue) (items : List Item) (parts : List Range) (path : List ℕ) (item : Item) → item_at path items
+    ≡ Some item
     → Tells (is_hit path (spots_of key new items parts)) (list_any (is_of path) parts) key new (attributes_of item)
 parts-tell key new items [] path item there = record { only = λ e. e; whole = λ e. absurd cc }
 parts-tell key new items (part ∷ parts) path item there =
     let mine = map (spot_of (parent_of part.start)) (runs_of key new (offset_of part.start) (items_of_range items part)) in
-    subst (λ b. Tells b (is_of path part || list_any (is_of path) parts) key new (attributes_of item)) (sym (list_any-append (λ (spot : Spot). is_of path spot.range) mine (spots_of key new items parts)))
-    (go (is_hit path mine) (is_of path part) (is_hit path (spots_of key new items parts)) (list_any (is_of path) parts) (part-tells key new items part path item there) (parts-tell key new items parts path item there))
+    subst (λ b. Tells b (is_of path part || list_any (is_of path) parts) key new (attributes_of item))
+    (sym (list_any-append (λ (spot : Spot). is_of path spot.range) mine (spots_of key new items parts)))
+    (go (is_hit path mine) (is_of path part) (is_hit path (spots_of key new items parts)) (list_any (is_of path) parts) (part-tells key new items part path item
+    there) (parts-tell key new items parts path item there))
   where
-    go : (h a k b : Bool) → Tells h a key new (attributes_of item) → Tells k b key new (attributes_of item) → Tells (h || k) (a || b) key new (attributes_of item)
+    go : (h a k b : Bool) → Tells h a key new (attributes_of item) → Tells k b key new (attributes_of item)
+        → Tells (h || k) (a || b) key new (attributes_of item)
     go true a k b first rest = record { only = λ e. (let has = first.only refl in ap (λ x. x || b) has); whole = λ e f. absurd cc }
     go false true k b first rest = record { only = λ e. refl; whole = λ e f. first.whole refl refl }
     go false false k b first rest = record { only = rest.only; whole = rest.whole }
 
 -- what is given where runs change is given to all that the parts have
-given-all : (h a : Bool) (key : List ℕ) (new : Option AttributeValue) (old made : Attributes) → Tells h a key new old → IsGiven h key new old made → IsGiven a key new old made
+given-all : (h a : Bool) (key : List ℕ) (new : Option AttributeValue) (old made : Attributes) → Tells h a key new old → IsGiven h key new old made
+    → IsGiven a key new old made
 given-all true true key new old made tells g = g
 given-all true false key new old made tells g = absurd (let has = tells.only refl in cc)
 given-all false true key new old made tells g = record { changed = ap (value_of key) g ∙ tells.whole refl refl; others = λ other differ. ap (value_of other) g }
@@ -202,7 +216,8 @@ step-made edit (Ok state) made e = (let same : state ≡ made = cc in ap Ok same
 step-made edit (Err fault) made e = absurd cc
 
 given-planned : (edit : ℕ) (target : Target) (key : List ℕ) (new : Option AttributeValue) (state made : State)
-    → (given_to edit state.document.items target key new >>= (λ operations. as_step edit (all_applied operations state) >>= (λ m. Ok m))) ≡ Ok made → Planned edit target key new state made
+    → (given_to edit state.document.items target key new >>= (λ operations. as_step edit (all_applied operations state) >>= (λ m. Ok m))) ≡ Ok made
+    → Planned edit target key new state made
 given-planned edit target key new state made e =
     let items = state.document.items in
     let a = edit-ok (given_to edit items target key new) (λ operations. as_step edit (all_applied operations state) >>= (λ m. Ok m)) made e in
@@ -213,7 +228,8 @@ given-planned edit target key new state made e =
     record {
       parts = b.0;
       found = b.1;
-      done = ap (λ operations. all_applied operations state) (sym (spots-changed key new items b.0) ∙ plan) ∙ step-made edit (all_applied a.0 state) c.0 c.1 ∙ ap Ok same;
+      done = ap (λ operations. all_applied operations state) (sym (spots-changed key new items b.0) ∙ plan) ∙ step-made edit (all_applied a.0 state) c.0 c.1
+          ∙ ap Ok same;
     }
 
 pub planned_edit : (registered : List ℕ → Bool) (edit : ℕ) (target : Target) (key : List ℕ) (new : Option AttributeValue) (state made : State)
@@ -222,7 +238,8 @@ planned_edit registered edit target key None state made e = given-planned edit t
 planned_edit registered edit target key (Some value) state made e = given-planned edit target key (Some value) state made e
 
 -- the parts of a target have the items that it reaches
-parts-reach : (edit : ℕ) (items : List Item) (target : Target) (parts : List Range) (path : List ℕ) (item : Item) → parts_of edit items target ≡ Ok parts → item_at path items ≡ Some item
+parts-reach : (edit : ℕ) (items : List Item) (target : Target) (parts : List Range) (path : List ℕ) (item : Item) → parts_of edit items target ≡ Ok parts
+    → item_at path items ≡ Some item
     → list_any (is_of path) parts ≡ is_reached items target path
 parts-reach edit items (InRange start end) parts path item e there =
     let a = edit-ok (check (is_range items start end) (BadRange edit start end)) (λ _. Ok (flat_parts (child_count items) (between start end))) parts e in
@@ -280,12 +297,14 @@ parts-reach edit items (OfElement place) parts path item e there =
         let whole = path-joined place some in
         let next : behind place ≡ parent_of place ++ (offset_of place + 1) ∷ [] = ap behind whole ∙ behind-push (parent_of place) (offset_of place) in
         let last : offset_of (behind place) ≡ offset_of place + 1 = ap offset_of next ∙ offset_of-push (parent_of place) (offset_of place + 1) in
-        ap (λ m. (pointwise nat_eq (parent_of place) (parent_of path) && (nat_le (offset_of place) (offset_of path) && nat_lt (offset_of path) m)) || false) last
+        ap (λ m. (pointwise nat_eq (parent_of place) (parent_of path) && (nat_le (offset_of place) (offset_of path) && nat_lt (offset_of path) m))
+        || false) last
         ∙ one (pointwise nat_eq (parent_of place) (parent_of path)) (offset_of place) (offset_of path)
         ∙ sym ((λ t. pointwise nat_eq (whole t) (path-joined path other t)) ∙ joined (parent_of place) (parent_of path) (offset_of place) (offset_of path))
 
 -- each item that an edit reaches has the new value, and every other is as it was
-pub value_given : (registered : List ℕ → Bool) (edit : ℕ) (target : Target) (key : List ℕ) (new : Option AttributeValue) (state made : State) (path : List ℕ) (item : Item) → IsKeyed state
+pub value_given : (registered : List ℕ → Bool) (edit : ℕ) (target : Target) (key : List ℕ) (new : Option AttributeValue) (state made : State) (path : List ℕ)
+    (item : Item) → IsKeyed state
     → performed registered edit (attribute_edit target key new) state ≡ Ok made → item_at path state.document.items ≡ Some item
     → HasGiven (is_reached state.document.items target path) key new (attributes_of item) made.document.items path
 value_given registered edit target key new state made path item keyed e there =
@@ -297,5 +316,6 @@ value_given registered edit target key new state made path item keyed e there =
     (record {
       item = g.item;
       there = g.there;
-      given = given-all (is_hit path spots) (list_any (is_of path) p.parts) key new (attributes_of item) (attributes_of g.item) (parts-tell key new items p.parts path item there) g.given;
+      given = given-all (is_hit path spots) (list_any (is_of path) p.parts) key new (attributes_of item) (attributes_of g.item)
+          (parts-tell key new items p.parts path item there) g.given;
     })

@@ -1,14 +1,15 @@
 -- What an edit of an attribute leaves as it was: all but the attributes of items.
-use Rattle.std.proofs.Common.{◌≡◌, ℕ, zero, suc, ◌+◌, ◌-◌, Bool, true, false, not, ◌&&◌, if◌then◌else◌, List, [], ◌∷◌, ◌++◌, map, take, drop, Option, Some, None, All, IsTrue, option_map, option_and_then, slice_get, slice_set, Result, Ok, refl, sym, ap, ◌∙◌, subst}
+use Rattle.std.proofs.Common.{◌≡◌, ℕ, zero, suc, ◌+◌, ◌-◌, Bool, true, not, ◌&&◌, if◌then◌else◌, List, [], ◌∷◌, ◌++◌, map, take, drop, Option, Some, option_map}
+use Rattle.std.proofs.Common.{slice_get, slice_set, Ok, refl, sym, ap, ◌∙◌}
 use Rattle.std.specs.Option.{option_map_or}
 use Rattle.std.proofs.lemmas.List.{map-append}
 use Rattle.std.proofs.lemmas.List.Elements.{All-head, All-tail}
 use Rattle.ck_base.specs.declared.value.Value.{Value as AttributeValue}
-use Rattle.item_definitions.specs.Item.{Item, Items, character, element, none, more, list_of, items_of, inner, with_inner, attributes_of, with_attributes}
+use Rattle.item_definitions.specs.Item.{Item, Items, character, element, none, more, list_of, items_of, inner, with_inner}
 use Rattle.item_definitions.specs.Children.{parent_of, offset_of, child_count, at, in_item}
 use Rattle.item_definitions.specs.Position.{Range, between, IsRange, not_after}
 use Rattle.item_definitions.specs.Shift.{stay, carry_range}
-use Rattle.operation_definitions.specs.Level.{give, given, with_key}
+use Rattle.operation_definitions.specs.Level.{give, given}
 use Rattle.operation_definitions.proofs.Levels.{replaced}
 use Rattle.ck_base.proofs.Common.{in_three}
 use Rattle.operation_definitions.proofs.Lifting.{map-some, then-some}
@@ -18,7 +19,7 @@ use Rattle.document_definitions.specs.Markers.{Markers}
 use Rattle.document_definitions.specs.Markers as markers
 use Rattle.document_definitions.specs.Selection.{Selection, same_position, same_range, selected}
 use Rattle.document_definitions.specs.Selection as selections
-use Rattle.document_definitions.specs.Document.{State, changed, applied, all_applied}
+use Rattle.document_definitions.specs.Document.{State, applied, all_applied}
 use Rattle.document_definitions.specs.Sound.{IsSound, AreIn}
 use Rattle.edit_definitions.specs.declared.edit.Target.{Target}
 use Rattle.edit_definitions.specs.Performed.{performed}
@@ -31,7 +32,8 @@ use Rattle.edit_definitions.proofs.Reaching.{planned_edit}
 given-bare : (key : List ℕ) (new : Option AttributeValue) (run : List Item) → map item_without_attributes (given key new run) ≡ map item_without_attributes run
 given-bare key new [] = refl
 given-bare key new (character scalar attributes ∷ run) = ap (λ rest. item_without_attributes (character scalar attributes) ∷ rest) (given-bare key new run)
-given-bare key new (element id name attributes children ∷ run) = ap (λ rest. item_without_attributes (element id name attributes children) ∷ rest) (given-bare key new run)
+given-bare key new (element id name attributes children ∷ run) = ap (λ rest. item_without_attributes (element id name attributes children)
+    ∷ rest) (given-bare key new run)
 
 inner-bare : (items : Items) → inner_without_attributes items ≡ items_of (map item_without_attributes (list_of items))
 inner-bare none = refl
@@ -63,21 +65,26 @@ give-bare offset count key new xs ys run e =
     let c = drop (offset + count) xs in
     let put : given key new b ≡ r.new = ap (λ (o : Option (List Item × List Item)). option_map_or (λ (m : List Item × List Item). m.0) o []) r.gives in
     ap (map item_without_attributes) (sym r.result ∙ ap (λ n. a ++ (n ++ c)) (sym put)) ∙ parts a (given key new b) c
-    ∙ ap (λ m. map item_without_attributes a ++ (m ++ map item_without_attributes c)) (given-bare key new b) ∙ sym (parts a b c) ∙ ap (map item_without_attributes) (in_three offset count xs)
+    ∙ ap (λ m. map item_without_attributes a ++ (m ++ map item_without_attributes c)) (given-bare key new b) ∙ sym (parts a b c)
+    ∙ ap (map item_without_attributes) (in_three offset count xs)
   where
-    parts : (a b c : List Item) → map item_without_attributes (a ++ (b ++ c)) ≡ map item_without_attributes a ++ (map item_without_attributes b ++ map item_without_attributes c)
+    parts : (a b c : List Item) → map item_without_attributes (a ++ (b ++ c)) ≡ map item_without_attributes a
+        ++ (map item_without_attributes b ++ map item_without_attributes c)
     parts a b c = map-append item_without_attributes a (b ++ c) ∙ ap (λ m. map item_without_attributes a ++ m) (map-append item_without_attributes b c)
 
-tree-bare : (path : List ℕ) (offset count : ℕ) (key : List ℕ) (new : Option AttributeValue) (xs ys run : List Item) → at path (give offset count key new) xs ≡ Some (ys, run)
+tree-bare : (path : List ℕ) (offset count : ℕ) (key : List ℕ) (new : Option AttributeValue) (xs ys run : List Item) → at path (give offset count key new) xs
+    ≡ Some (ys, run)
     → map item_without_attributes ys ≡ map item_without_attributes xs
 tree-bare [] offset count key new xs ys run e = give-bare offset count key new xs ys run e
 tree-bare (first ∷ path) offset count key new xs ys run e =
     let f = give offset count key new in
-    let a = then-some (λ item. option_map (λ (made : Item × List Item). (slice_set xs first made.0, made.1)) (in_item (at path f) item)) (slice_get xs first) (ys, run) e in
+    let a = then-some (λ item. option_map (λ (made : Item × List Item). (slice_set xs first made.0, made.1)) (in_item (at path f) item)) (slice_get xs first)
+    (ys, run) e in
     let b = map-some (λ (made : Item × List Item). (slice_set xs first made.0, made.1)) (in_item (at path f) a.0) (ys, run) a.2 in
     let c = then-some (λ items. option_map (λ (made : List Item × List Item). (with_inner made.0 a.0, made.1)) (at path f items)) (inner a.0) b.0 b.1 in
     let d = map-some (λ (made : List Item × List Item). (with_inner made.0 a.0, made.1)) (at path f c.0) b.0 c.2 in
-    let whole : slice_set xs first (with_inner d.0.0 a.0) ≡ ys = ap (slice_set xs first) (ap (λ (p : Item × List Item). p.0) d.2) ∙ ap (λ (p : List Item × List Item). p.0) b.2 in
+    let whole : slice_set xs first (with_inner d.0.0 a.0) ≡ ys = ap (slice_set xs first) (ap (λ (p : Item × List Item). p.0) d.2)
+    ∙ ap (λ (p : List Item × List Item). p.0) b.2 in
     ap (map item_without_attributes) (sym whole)
     ∙ set-bare xs first a.0 (with_inner d.0.0 a.0) a.1 (inside-bare a.0 c.0 d.0.0 c.1 (tree-bare path offset count key new c.0 d.0.0 d.0.1 d.1))
 
@@ -94,20 +101,25 @@ markers-stay items (entry ∷ all) h =
 selection-stays : (selection : Selection) → not_after selection.range.start selection.range.end ≡ true → selections.carried stay selection ≡ selection
 selection-stays selection ordered =
     ap (λ r. if same_range r selection.range then selection else selected r selection.backward) (range-stays selection.range ordered)
-    ∙ ap (λ b. if b && same_position selection.range.end selection.range.end then selection else selected selection.range selection.backward) (numbers_same selection.range.start selection.range.start refl)
+    ∙ ap (λ b. if b && same_position selection.range.end selection.range.end then selection else selected selection.range selection.backward)
+    (numbers_same selection.range.start selection.range.start refl)
     ∙ ap (λ b. if b then selection else selected selection.range selection.backward) (numbers_same selection.range.end selection.range.end refl)
 
 -- so one change after the other
-pub rest-stays : (key : List ℕ) (new : Option AttributeValue) (spots : List Spot) (state made : State) → markers.carried stay state.document.markers ≡ state.document.markers
-    → selections.carried stay state.document.selection ≡ state.document.selection → all_applied (map (change_at key new) spots) state ≡ Ok made → without_attributes made ≡ without_attributes state
+pub rest-stays : (key : List ℕ) (new : Option AttributeValue) (spots : List Spot) (state made : State) → markers.carried stay state.document.markers
+    ≡ state.document.markers
+    → selections.carried stay state.document.selection ≡ state.document.selection → all_applied (map (change_at key new) spots) state ≡ Ok made
+    → without_attributes made ≡ without_attributes state
 rest-stays key new [] state made marked selected e = (let same : state ≡ made = cc in ap without_attributes (sym same))
 rest-stays key new (spot ∷ spots) state made marked selected e =
     let a = step-ok (applied (change_at key new spot) state) (all_applied (map (change_at key new) spots)) made e in
     let one = one-changed key new spot state a.0 a.1 in
     let markers_are : a.0.document.markers ≡ state.document.markers = ap (λ (s : State). s.document.markers) (sym one.is) ∙ marked in
     let selection_is : a.0.document.selection ≡ state.document.selection = ap (λ (s : State). s.document.selection) (sym one.is) ∙ selected in
-    let bare_are = tree-bare (parent_of spot.range.start) (offset_of spot.range.start) (offset_of spot.range.end - offset_of spot.range.start) key new state.document.items one.whole one.run one.tree in
-    rest-stays key new spots a.0 made (ap (markers.carried stay) markers_are ∙ marked ∙ sym markers_are) (ap (selections.carried stay) selection_is ∙ selected ∙ sym selection_is) a.2
+    let bare_are = tree-bare (parent_of spot.range.start) (offset_of spot.range.start) (offset_of spot.range.end - offset_of spot.range.start) key new
+    state.document.items one.whole one.run one.tree in
+    rest-stays key new spots a.0 made (ap (markers.carried stay) markers_are ∙ marked ∙ sym markers_are) (ap (selections.carried stay) selection_is ∙ selected
+    ∙ sym selection_is) a.2
     ∙ ap without_attributes (sym one.is)
     ∙ (λ t. record {
       document = record { items = bare_are t; markers = marked t; selection = selected t; next_id = state.document.next_id };

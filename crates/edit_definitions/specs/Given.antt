@@ -21,7 +21,8 @@ attribute_edit target key None = RemoveAttribute target key
 
 -- the item at a path is one of those of a flat range: it stands in the range's parent, from the start on and before the end
 abbrev pub is_of : List ℕ → Range → Bool
-is_of path range = same_position (parent_of range.start) (parent_of path) && (nat_le (offset_of range.start) (offset_of path) && nat_lt (offset_of path) (offset_of range.end))
+is_of path range = same_position (parent_of range.start) (parent_of path) && (nat_le (offset_of range.start) (offset_of path)
+    && nat_lt (offset_of path) (offset_of range.end))
 
 -- a target has the item at a path: that is one of the items of the flat ranges that make up a range, or the element itself
 abbrev pub is_reached : List Item → Target → List ℕ → Bool

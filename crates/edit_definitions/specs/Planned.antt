@@ -21,7 +21,6 @@ use Rattle.edit_definitions.specs.Places.{is_there, is_range, are_in_one, is_ele
 use Rattle.edit_definitions.specs.Runs.{give_in, with_ids}
 
 infixl 10 ◌>>=◌
-
 -- a step that may be refused, and what follows with its answer
 abbrev pub ◌>>=◌ : {A B : Type 0} → Result A EditFault → (A → Result B EditFault) → Result B EditFault
 Ok x >>= next = next x

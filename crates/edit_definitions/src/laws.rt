@@ -1,5 +1,5 @@
 //! What holds of every document and edit.
-ghost use Rattle.std.specs.Prelude.{◌≡◌, ◌≢◌, ℕ, ◌+◌, List, map, length, slice_get, Bool, if◌then◌else◌, Option, Some, None, Ok, Err};
+ghost use Rattle.std.specs.Prelude.{◌≡◌, ◌≢◌, ℕ, ◌+◌, List, map, length, slice_get, Bool, true, not, ◌&&◌, if◌then◌else◌, Option, Some, None, Ok, Err};
 ghost use Rattle.document_definitions.specs.Document.{State, ids_of, all_applied};
 ghost use Rattle.std.specs.List.{range_with_len};
 ghost use Rattle.ck_base.specs.declared.faults.EditFault.TheVariants.{NoMemory};
@@ -7,7 +7,8 @@ ghost use Rattle.ck_base.specs.declared.value.Value.{Value as AttributeValue};
 ghost use Rattle.ck_base.specs.Entries.{value_of};
 ghost use Rattle.operation_definitions.specs.After.{same_value};
 ghost use Rattle.item_definitions.specs.Item.{Item, attributes_of};
-ghost use Rattle.item_definitions.specs.Children.{item_at};
+ghost use Rattle.item_definitions.specs.Children.{parent_of, item_at};
+ghost use Rattle.item_definitions.specs.Position.{between, holds};
 ghost use Rattle.edit_definitions.specs.Runs.{runs_of, value_told, AreLongest, with_ids, item_without_ids};
 ghost use Rattle.document_definitions.specs.Sound.{IsSound, IsKeyed};
 ghost use Rattle.operation_definitions.specs.Operation.{Operation};
@@ -15,6 +16,8 @@ ghost use Rattle.edit_definitions.specs.declared.edit.Edit.{Edit};
 ghost use Rattle.edit_definitions.specs.Planned.{operations_of};
 ghost use Rattle.edit_definitions.specs.Applied.{AreApplied};
 ghost use Rattle.edit_definitions.specs.declared.edit.Target.{Target};
+ghost use Rattle.edit_definitions.specs.declared.edit.Target.TheVariants.{Range as InRange};
+ghost use Rattle.edit_definitions.specs.Places.{is_range};
 ghost use Rattle.edit_definitions.specs.Given.{attribute_edit, is_reached, HasGiven, without_attributes};
 ghost use Rattle.edit_definitions.specs.Performed.{performed, all_performed, apart, document_made, edits_made};
 
@@ -32,7 +35,8 @@ pub fn edits_read_no_cells()
 pub fn planned_operations_apply()
     ensures apply { (registered : List ℕ → Bool) (number : ℕ) (edit : Edit) (state : State) (operations : List Operation)
         → IsSound state → operations_of registered number edit state ≡ Ok operations → AreApplied (all_applied operations state) }
-    ensures told { (registered : List ℕ → Bool) (number : ℕ) (edit : Edit) (state : State) → IsSound state → performed registered number edit state ≢ Err NoMemory }
+    ensures told { (registered : List ℕ → Bool) (number : ℕ) (edit : Edit) (state : State) → IsSound state
+        → performed registered number edit state ≢ Err NoMemory }
 {}
 
 /// Items with new ids have the next ids in document order, and are what they were in all else.
@@ -50,11 +54,18 @@ pub fn runs_are_the_longest()
         ≡ (if same_value (value_of key (attributes_of item)) new then None else Some (value_of key (attributes_of item))) }
 {}
 
+/// An edit of an attribute over a range reaches the items of the range that are in no other item of it.
+pub fn attribute_edits_reach_the_outermost()
+    ensures { (items : List Item) (start end path : List ℕ) (item : Item) → is_range items start end ≡ true → item_at path items ≡ Some item
+        → is_reached items (InRange start end) path ≡ (holds (between start end) path && not (holds (between start end) (parent_of path))) }
+{}
+
 /// After an edit of an attribute each item that it reaches has the new value of the key, or lacks the key where that is taken away, and has
 /// the values of its other keys from before; an item that it doesn't reach has the attributes from before. All else is as it was: each
 /// character, id, name and place of an item, the markers, the selection with its overrides, the next id and the cells.
 pub fn attribute_edits_give_the_value()
-    ensures value { (registered : List ℕ → Bool) (number : ℕ) (target : Target) (key : List ℕ) (new : Option AttributeValue) (state made : State) (path : List ℕ) (item : Item)
+    ensures value { (registered : List ℕ → Bool) (number : ℕ) (target : Target) (key : List ℕ) (new : Option AttributeValue) (state made : State)
+        (path : List ℕ) (item : Item)
         → IsKeyed state → performed registered number (attribute_edit target key new) state ≡ Ok made → item_at path state.document.items ≡ Some item
         → HasGiven (is_reached state.document.items target path) key new (attributes_of item) made.document.items path }
     ensures rest { (registered : List ℕ → Bool) (number : ℕ) (target : Target) (key : List ℕ) (new : Option AttributeValue) (state made : State)

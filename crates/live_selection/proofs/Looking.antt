@@ -5,7 +5,6 @@ use Rattle.std.specs.List.{find, flat_map, enumerate_from}
 use Rattle.item_definitions.specs.Item.{Attributes, Item, Items, character, element, none, more, items_of, count_of, depth_of}
 use Rattle.item_definitions.specs.Children.{walk_item, walk_inner}
 use Rattle.item_definitions.specs.Position.{Range, holds}
-use Rattle.item_definitions.proofs.Sizes.{length-count}
 use Rattle.model_tree.specs.Parts.{TextParts}
 use Rattle.model_tree.specs.declared.items.Node.{Node}
 use Rattle.model_tree.specs.Nodes.{characters, items_at, items_in}

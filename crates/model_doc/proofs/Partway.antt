@@ -1,15 +1,12 @@
 -- Some of a list of operations are made, and others are left.
-use Rattle.std.proofs.Common.{◌≡◌, ℕ, ◌+◌, List, [], ◌∷◌, ◌++◌, map, length, Some, Result, Ok, Err, refl, sym, ap, ◌∙◌, subst, arith, append_assoc, append-nil}
+use Rattle.std.proofs.Common.{◌≡◌, ℕ, ◌+◌, List, [], ◌∷◌, ◌++◌, map, length, Result, Ok, refl, sym, ap, ◌∙◌, subst, arith, append_assoc, append-nil}
 use Rattle.operation_definitions.specs.Operation.{Fault}
 use Rattle.operation_definitions.specs.After.{◌>>=◌}
 use Rattle.document_definitions.specs.Document.{State, applied, all_applied}
 use Rattle.model_ops.specs.declared.operation.Operation.{Operation}
-use Rattle.model_ops.specs.declared.fault.OpFault.{OpFault}
 use Rattle.model_ops.specs.Meant.{operation_of}
-use Rattle.model_ops.specs.Effects.{refusal}
 use Rattle.model_doc.specs.Records.{Done, done_on, recorded, records_of}
 use Rattle.model_doc.specs.Conditions.{AreWelcome}
-use Rattle.document_definitions.specs.Sound.{IsWelcome}
 
 -- those that are left lead from here to where all lead from the start, with the records that are there in front
 pub record Partway (all : List Operation) (start : State) (mark : ℕ) (rest : List Operation) (state : State) (records : List Done) (now : ℕ) : Type 0 where

@@ -13,7 +13,7 @@ use Rattle.model_tree.specs.Limits.{changed, moved}
 use Rattle.model_tree.specs.declared.fault.TreeFault.{TreeFault}
 use Rattle.model_tree.specs.declared.fault.TreeFault.TheVariants as tree_fault
 use Rattle.model_ops.specs.declared.fault.OpFault.{OpFault}
-use Rattle.model_ops.specs.declared.fault.OpFault.TheVariants.{NoPlace, NoMemory, IntoItself}
+use Rattle.model_ops.specs.declared.fault.OpFault.TheVariants.{NoPlace, NoMemory}
 use Rattle.model_ops.specs.declared.plans.Change.{Change}
 use Rattle.model_ops.specs.Effects.{Plans, State, refusal, fault_of, placed}
 

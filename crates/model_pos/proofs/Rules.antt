@@ -2,7 +2,7 @@
 use Rattle.std.proofs.Common.{◌≡◌, ℕ, suc, ◌+◌, ◌-◌, ◌<◌, ◌≤◌, ◌^◌, Bool, true, false, nat_lt, ◌==◌, if◌then◌else◌, List, [], ◌∷◌, ◌++◌, length, Some, None, All, refl, sym, ap, ◌∙◌, subst, arith, rules, Fits, w32, length-append, append_assoc}
 use Rattle.std.specs.Option.{option_map_or}
 use Rattle.std.proofs.lemmas.Bool.Decides.{nat_tests}
-use Rattle.item_definitions.specs.Shift.{IsWithinLimits, Stick, rest_behind, within, rule_insert, rule_remove, rule_cut, rule_split, rule_join, rule_merge, comes_before}
+use Rattle.item_definitions.specs.Shift.{IsWithinLimits, Stick, rest_behind, within, rule_remove, rule_cut, rule_split, rule_join, rule_merge, comes_before}
 use Rattle.model_pos.specs.Untouched.{Untouched}
 
 -- a position behind a parent's path is that path and the rest

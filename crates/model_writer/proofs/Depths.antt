@@ -1,16 +1,16 @@
 -- How long the path of an item is, and how large its index.
-use Rattle.std.proofs.Common.{◌≡◌, ◌≢◌, ℕ, zero, suc, ◌+◌, ◌<◌, ◌≤◌, ◌^◌, max, Bool, true, false, nat_eq, nat_lt, nat_le, ◌&&◌, ◌||◌, ◌==◌, List, [], ◌∷◌, ◌++◌, length, Option, Some, None, option_and_then, is_some, slice_get, refl, sym, ap, ◌∙◌, arith}
+use Rattle.std.proofs.Common.{◌≡◌, ◌≢◌, ℕ, zero, suc, ◌+◌, ◌<◌, ◌≤◌, ◌^◌, Bool, true, false, nat_eq, nat_lt, nat_le, ◌&&◌, ◌||◌, ◌==◌, List, [], ◌∷◌, ◌++◌, length, Option, Some, None, option_and_then, is_some, slice_get, refl, sym, ap, ◌∙◌, arith}
 use Rattle.std.specs.Option.{option_map_or}
 use Rattle.std.specs.Cmp.Lexicographic.{pointwise}
 use Rattle.std.proofs.lemmas.Bool.{false≢true}
 use Rattle.std.proofs.lemmas.Bool.Decides.{nat_tests}
 use Rattle.std.proofs.lemmas.List.{length_push}
-use Rattle.item_definitions.specs.Item.{Item, Items, character, element, none, more, list_of, inner, item_count, inner_count, item_depth, inner_depth, count_of, depth_of}
+use Rattle.item_definitions.specs.Item.{Item, character, element, inner, item_count, item_depth, count_of, depth_of}
 use Rattle.item_definitions.specs.Children.{parent_of, offset_of, children_at, item_at}
 use Rattle.item_definitions.specs.Position.{not_after, behind}
 use Rattle.item_definitions.proofs.Order.{behind-push, not_after-cons, not_after-parent}
 use Rattle.item_definitions.proofs.Paths.{path-joined}
-use Rattle.item_definitions.proofs.Sizes.{count-list, depth-list, within-item}
+use Rattle.item_definitions.proofs.Sizes.{within-item}
 use Rattle.operation_definitions.proofs.Names.{same_numbers, numbers_same}
 use Rattle.document_definitions.specs.Selection.{same_position}
 use Rattle.operation_definitions.proofs.Lifting.{then-some}

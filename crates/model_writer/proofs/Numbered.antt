@@ -1,7 +1,6 @@
 -- Ids of items, and new ids for them.
 use Rattle.std.proofs.Common.{◌≡◌, ◌≢◌, ℕ, zero, suc, ◌+◌, ◌-◌, ◌<◌, ◌≤◌, ◌^◌, min, List, [], ◌∷◌, ◌++◌, map, length, take, drop, get_or, refl, sym, ap, ◌∙◌, subst, arith}
 use Rattle.std.proofs.lemmas.List.{length-append, append-nil, take-append-drop, take_more, length-drop, length-take}
-use Rattle.std.proofs.lemmas.List.Concat.{flat_map-append}
 use Rattle.model_writer.proofs.Joined.{items-push}
 use Rattle.model_doc.proofs.NextIds.{ids-inner, ids-characters}
 use Rattle.item_definitions.specs.Item.{Item, Attributes, character, element, more, items_of, count_of, depth_of}

@@ -15,7 +15,7 @@ use Rattle.item_definitions.specs.FlatParts.{flat_parts}
 use Rattle.operation_definitions.specs.Operation.{Operation, in_tree, in_cell, fresh, insert, move, attribute, rename, split, merge, marker}
 use Rattle.operation_definitions.specs.Reversed.{HasPlaces}
 use Rattle.document_definitions.specs.Selection.{same_position, same_range}
-use Rattle.document_definitions.specs.Document.{State, ids_of, applied}
+use Rattle.document_definitions.specs.Document.{State, ids_of}
 use Rattle.document_definitions.specs.Sound.{IsSound, ids_in, IsWelcome}
 use Rattle.document_definitions.proofs.Soundness.{keeps_soundness}
 use Rattle.edit_definitions.specs.declared.edit.Edit.{Edit}

@@ -1,7 +1,6 @@
 -- A key that gets its old value again makes the attributes what they were.
-use Rattle.std.proofs.Common.{◌≡◌, ℕ, List, [], ◌∷◌, Bool, true, false, ◌&&◌, cond, Option, Some, None, refl, sym, ap, ◌∙◌, subst}
+use Rattle.std.proofs.Common.{◌≡◌, ℕ, List, [], ◌∷◌, ◌&&◌, cond, Option, Some, None, refl, sym, ap, ◌∙◌}
 use Rattle.std.specs.Ordering.{is_lt, is_eq}
-use Rattle.std.specs.declared.cmp.Ordering.{Ordering}
 use Rattle.std.specs.declared.cmp.Ordering.TheVariants.{Less, Equal, Greater}
 use Rattle.std.specs.Cmp.Lexicographic.{nat_list_cmp_total}
 use Rattle.std.specs.FinMap.Entries.{is_sorted, below_all, find-put}
@@ -9,7 +8,7 @@ use Rattle.std.proofs.lemmas.Cmp.{tied_itself}
 use Rattle.ck_base.specs.declared.value.Value.{Value as AttributeValue}
 use Rattle.ck_base.specs.Entries.{name_cmp, IsOrdered, value_of, with_value, without}
 use Rattle.ck_base.proofs.Places.{same_name}
-use Rattle.ck_base.proofs.Common.{both, first, second, less}
+use Rattle.ck_base.proofs.Common.{first, second, less}
 use Rattle.ck_base.proofs.Ordered.{none_before, before_all}
 use Rattle.ck_base.proofs.Lookups.{gone}
 use Rattle.operation_definitions.specs.Level.{with_key}

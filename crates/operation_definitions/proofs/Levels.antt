@@ -3,7 +3,7 @@ use Rattle.std.proofs.Common.{◌≡◌, ℕ, zero, suc, ◌+◌, ◌-◌, ◌�
 use Rattle.std.specs.Option.{option_map_or}
 use Rattle.std.proofs.lemmas.List.{take-append-drop}
 use Rattle.std.proofs.lemmas.Bool.Decides.{nat_tests}
-use Rattle.ck_base.proofs.Common.{drop_none, drop_add, in_three}
+use Rattle.ck_base.proofs.Common.{in_three}
 use Rattle.item_definitions.specs.Item.{Item, character, element, inner, with_inner}
 use Rattle.item_definitions.specs.Children.{Change}
 use Rattle.operation_definitions.specs.Level.{replace, put_in, take_out, rename_at, split_at, merge_at, one_item, renamed, split_item, merge_items}

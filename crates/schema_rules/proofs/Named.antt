@@ -59,10 +59,6 @@ module _ (names : List (List ℕ)) where
     pub reached_names : (node : ℕ) → node < length names → is_marked marks node ≡ has (reachable pairs from) (named names node)
     reached_names node inside = both_ways (is_marked marks node) (has (reachable pairs from) (named names node)) (only_reached node) (λ h. all_reached (named names node) h node inside refl)
 
-    -- which are all known
-    pub reached_known : (name : List ℕ) → has (reachable pairs from) name ≡ true → has names name ≡ true
-    reached_known = reachable_least pairs from (λ name. has names name ≡ true) starts.known (λ a b l h. (within a b l).1)
-
 -- what marked nodes lead to
 below_found : (graph : List (List ℕ)) (marks : List Bool) (bound to : ℕ) → among (targets_below graph marks bound) to ≡ true → (from : ℕ) × (from < bound) × (is_marked marks from ≡ true) × (goes graph from to ≡ true)
 below_found graph marks zero to h = cc

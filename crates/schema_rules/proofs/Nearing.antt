@@ -40,14 +40,3 @@ module _ {X : Type 0} where
       list_any_more (test i) xs k x less
       ∙ ap (λ y. list_any (test i) (take k xs) || test i y) (sym is)
       ∙ (λ j. before i low (omega arith) j || here i low high j)
-
-  pub there_after : (test : ℕ → X → Bool) (xs : List X) (k : ℕ) (x : X) (first next to : ℕ) → k < length xs → x ≡ get_or xs k x → next ≤ first
-      → (first < to → list_any (test first) (take k xs) ≡ true) → (next < first → test next x ≡ true) → next < to → list_any (test next) (take (k + 1) xs) ≡ true
-  there_after test xs k x first next to less is le before here high =
-      elim (decide next first) [
-        | inl same ↦ list_any_kept (test next) xs k (ap (λ n. list_any (test n) (take k xs)) same ∙ before (omega arith))
-        | inr apart ↦ list_any_more (test next) xs k x less
-            ∙ ap (λ y. list_any (test next) (take k xs) || test next y) (sym is)
-            ∙ ap (λ b. list_any (test next) (take k xs) || b) (here (omega arith))
-            ∙ or-true (list_any (test next) (take k xs))
-      ]

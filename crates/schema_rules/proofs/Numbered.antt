@@ -34,14 +34,6 @@ module _ (names : List (List ℕ)) (places : BTreeMap (List ℕ) ℕ) (numbered 
   number_there None e = sym (none_there (sym e))
   number_there (Some node) e = sym (subst (λ n. has names n ≡ true) (numbered.meant name node (sym e)) (has_named names node (numbered.inside name node (sym e))))
 
-  pub number_inside : (found : Option ℕ) → found ≡ get name_cmp places name → IfSome found (λ node. node < length names)
-  number_inside None e = tt
-  number_inside (Some node) e = numbered.inside name node (sym e)
-
-  pub number_meant : (found : Option ℕ) → found ≡ get name_cmp places name → IfSome found (λ node. named names node ≡ name)
-  number_meant None e = tt
-  number_meant (Some node) e = numbered.meant name node (sym e)
-
   pub number_exact : (found : Option ℕ) → found ≡ get name_cmp places name → (node : ℕ) → node < length names → is_at found node ≡ bytes_eq name (named names node)
   number_exact None e node inside = sym (false_from_ne_true (bytes_eq name (named names node)) (λ same. let n : name ≡ named names node = same_name name (named names node) same in cc (numbered.found node inside)))
   number_exact (Some at) e node inside = elim (cases_eq at node) [
@@ -68,7 +60,7 @@ alike a b e = slice_cmp-IsAntisymmetric nat_cmp-IsAntisymmetric a b (equal (name
   equal Greater e = cc
 
 -- one more name that isn't there
-pub numbered_with : (names : List (List ℕ)) (places more : BTreeMap (List ℕ) ℕ) (name : List ℕ) → IsNumbered names places → has names name ≡ false → Updates name_cmp places more name (Some (length names)) → IsNumbered (names ++ name ∷ []) more
+numbered_with : (names : List (List ℕ)) (places more : BTreeMap (List ℕ) ℕ) (name : List ℕ) → IsNumbered names places → has names name ≡ false → Updates name_cmp places more name (Some (length names)) → IsNumbered (names ++ name ∷ []) more
 numbered_with names places more name numbered absent updates =
     let old : (node : ℕ) → node < length names → named (names ++ name ∷ []) node ≡ named names node = λ node inside. get_or_append_left names (name ∷ []) [] node inside in
     let last : named (names ++ name ∷ []) (length names) ≡ name = get_or_push names name [] (length names) refl in

@@ -117,7 +117,7 @@ module _ (graph : List (List ℕ)) (start : List ℕ) where
       subst P (sym e) (subst (λ x. unmarked (visited (slice_index_or graph node []) marks left).0 + length (visited (slice_index_or graph node []) marks left).1 < unmarked marks + length x) (sym w) (falls marks left node g (subst (λ x. IsPartway graph start marks x) w p)))
 
   -- at the end nothing waits
-  pub partway_ended : (marks : List Bool) → IsPartway graph start marks [] → AreReached graph start marks
+  partway_ended : (marks : List Bool) → IsPartway graph start marks [] → AreReached graph start marks
   partway_ended marks p = record { size = p.size; started = p.started; closed = λ from to g m. p.followed from to g m refl; least = p.least }
 
 -- the node that is taken out of the waiting ones

@@ -33,16 +33,6 @@ stands rules names above parent item e =
     ∙ ap (λ xs. unwrap_or (child_answer rules.checks names item) (stands_in rules.entries item parent && first_passes rules xs)) (sym turned)
     ∙ ap (unwrap_or (child_answer rules.checks names item)) (and-swapped (stands_in rules.entries item parent) (last_passes rules names))
 
-pub stands_by_check : (rules : Rules) (names above : List (List ℕ)) (parent item : List ℕ) (answer : Bool) → names ≡ above ++ parent ∷ [] → child_answer rules.checks names item ≡ Some answer
-    → answer ≡ check_child rules names item
-stands_by_check rules names above parent item answer e found =
-    sym (stands rules names above parent item e ∙ ap (λ o. unwrap_or o (last_passes rules names && stands_in rules.entries item parent)) found)
-
-pub stands_by_entries : (rules : Rules) (names above : List (List ℕ)) (parent item : List ℕ) → names ≡ above ++ parent ∷ [] → child_answer rules.checks names item ≡ None
-    → (last_passes rules names && stands_in rules.entries item parent) ≡ check_child rules names item
-stands_by_entries rules names above parent item e found =
-    sym (stands rules names above parent item e ∙ ap (λ o. unwrap_or o (last_passes rules names && stands_in rules.entries item parent)) found)
-
 -- an item passes where it may stand
 pub passes_inside : (rules : Rules) (names : List (List ℕ)) (item : List ℕ) → 0 < length names → check_child rules names item ≡ last_passes rules (names ++ item ∷ [])
 passes_inside rules names item some = checked rules names item some ∙ ap (first_passes rules) (sym (reverse_last names item))
