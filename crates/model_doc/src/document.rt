@@ -13,7 +13,7 @@ ghost use Rattle.model_doc.specs.Records.{done_on, records_of, Leads, IsAgain};
 ghost use Rattle.model_doc.specs.Conditions.{AreWelcome};
 
 use crate::batch::Batch;
-use crate::body::{Body, refused};
+use crate::body::Body;
 use crate::record::Record;
 use ck_base::NoMemory;
 use ck_base::name::Name;
@@ -117,7 +117,7 @@ impl Document {
     {
         match self.body.after(&operation) {
             Ok(made) => Ok(self.body.put(made, operation)),
-            Err(fault) => Err(refused(fault, operation)),
+            Err(fault) => Err(fault),
         }
     }
 
