@@ -24,7 +24,7 @@ use ck_base::name::Name;
 use ck_base::path::Path;
 use ck_base::steps::{Ledger, Steps};
 use conv_rules::list::ConverterList;
-use converter_read::plan::ConverterPlan;
+use converter_definitions::plan::ConverterPlan;
 use edit_definitions::edit::Edit;
 use model_doc::Document;
 use model_pos::Position;

@@ -6,9 +6,9 @@ use Rattle.schema_definitions.specs.Allowed.{inline_objects}
 use Rattle.converter_definitions.specs.Gives.{Converter, stock, boxed, Conversion}
 use Rattle.converter_definitions.specs.Gives.{Giving}
 use Rattle.converter_definitions.specs.Priority.{added}
-use Rattle.converter_read.specs.declared.plan.ConverterPlan.{ConverterPlan}
-use Rattle.converter_read.specs.declared.plan.PlanEntry.{PlanEntry}
-use Rattle.converter_read.specs.declared.plan.PlanEntry.TheVariants.{Stock, Boxed}
+use Rattle.converter_definitions.specs.declared.plan.ConverterPlan.{ConverterPlan}
+use Rattle.converter_definitions.specs.declared.plan.PlanEntry.{PlanEntry}
+use Rattle.converter_definitions.specs.declared.plan.PlanEntry.TheVariants.{Stock, Boxed}
 use Rattle.settings_definitions.specs.Settings.{Settings}
 
 -- what products' converters give, by their names

@@ -10,9 +10,9 @@ use Rattle.converter_definitions.specs.declared.part.Part.TheVariants.{Shape, Ex
 use Rattle.converter_definitions.specs.declared.stock.StockConverter.{StockConverter}
 use Rattle.converter_definitions.specs.Facts.{is_left}
 use Rattle.converter_definitions.specs.Gives.{Converter, stock, boxed, Conversion, converted}
-use Rattle.converter_read.specs.declared.plan.ConverterPlan.{ConverterPlan}
-use Rattle.converter_read.specs.declared.plan.PlanEntry.TheVariants.{Stock}
-use Rattle.converter_read.specs.PlanNames.{is_reserved}
+use Rattle.converter_definitions.specs.declared.plan.ConverterPlan.{ConverterPlan}
+use Rattle.converter_definitions.specs.declared.plan.PlanEntry.TheVariants.{Stock}
+use Rattle.converter_definitions.specs.PlanNames.{is_reserved}
 
 -- each converter that the plans describe themselves is among the converters, in whatever order
 abbrev pub AreListed : List ConverterPlan → List Converter → Type 0
