@@ -5,7 +5,7 @@ ghost use Rattle.pos_mapper.specs.Bindings.{numbers_of, with_binding};
 ghost use Rattle.pos_mapper.specs.Mapped.{Shows, Means};
 
 use crate::parts::{Binding, CaretPlace, Slot};
-use crate::reading::read_nodes;
+use crate::reading::{Reader, read_nodes};
 use crate::seeking::push_shown;
 use crate::table::Table;
 use ck_base::NoMemory;
@@ -154,7 +154,11 @@ impl Mapper {
     {
         let nodes = view.nodes().as_slice();
         let path = place.path.as_slice();
-        match read_nodes(&self.table, nodes, 0, path, place.offset, Path::new(alloc)) {
+        let reader = Reader {
+            table: &self.table,
+            last: place.offset,
+        };
+        match read_nodes(&reader, nodes, 0, path, Path::new(alloc)) {
             Some(position) => match Position::new(alloc, position) {
                 Some(position) => Ok(position),
                 None => unreachable!(),
