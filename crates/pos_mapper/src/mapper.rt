@@ -6,7 +6,7 @@ ghost use Rattle.pos_mapper.specs.Mapped.{Shows, Means};
 
 use crate::parts::{Binding, CaretPlace, Slot};
 use crate::reading::{Reader, read_nodes};
-use crate::seeking::push_shown;
+use crate::seeking::{Sought, push_shown};
 use crate::table::Table;
 use ck_base::NoMemory;
 use ck_base::path::Path;
@@ -106,17 +106,13 @@ impl Mapper {
     {
         let nodes = view.nodes().as_slice();
         let numbers = position.as_slice();
-        let caret = self.caret_at();
+        let sought = Sought {
+            table: &self.table,
+            caret: self.caret_at(),
+            caret_place: self.caret_place(),
+        };
         let mut place = Vec::new(alloc);
-        push_shown(
-            &self.table,
-            nodes,
-            0,
-            caret,
-            self.caret_place(),
-            numbers,
-            &mut place,
-        )?;
+        push_shown(&sought, nodes, 0, numbers, &mut place)?;
         Ok(as_view_place(place))
     }
 
