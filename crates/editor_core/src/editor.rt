@@ -40,7 +40,7 @@ use view_tree::view::View;
 #[derive(Debug, Drop)]
 pub struct Parts {
     pub schema: Schema,
-    /// The version of the settings, 1 or 2: in 2 neighbouring layers of the view are joined.
+    /// The version of the settings, 1 or 2: in 2 a layer of the view joins the first kept one that agrees with it.
     pub version: u32,
     /// The item of the element that a new document has.
     pub start: Option<Name>,
