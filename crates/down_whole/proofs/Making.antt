@@ -4,10 +4,6 @@ use Rattle.std.specs.Prelude.{IfSome}
 use Rattle.item_definitions.specs.Item.{Item, Items, Attributes, character, element, none, more, items_of, list_of}
 use Rattle.std.proofs.lemmas.List.Elements.{All-head}
 use Rattle.document_definitions.specs.Markers.{covering}
-use Rattle.model_tree.specs.Parts.{TextParts}
-use Rattle.model_tree.specs.declared.items.Node.{Node}
-use Rattle.model_tree.specs.declared.items.Node.TheVariants.{Run}
-use Rattle.model_tree.specs.Nodes.{items_at}
 use Rattle.view_definitions.specs.Node.{ViewNode}
 use Rattle.view_definitions.specs.Layer.{Layer}
 use Rattle.view_definitions.specs.Row.{item, nest}
@@ -137,10 +133,6 @@ no_elements attributes (scalar ∷ scalars) = omega (arith, no_elements attribut
 pub none_within : (attributes : Attributes) (scalars : List ℕ) → elements_within (characters attributes scalars) ≡ 0
 none_within attributes [] = refl
 none_within attributes (scalar ∷ scalars) = omega (arith, none_within attributes scalars)
-
--- a run has no elements
-pub run_within : (node : Node) (text : TextParts) → node ≡ Run text → 0 ≡ elements_within (items_at node)
-run_within node text e = sym (none_within text.attributes text.scalars) ∙ sym (ap (λ node. elements_within (items_at node)) e)
 
 -- characters were written
 pub run-made : (scene : Scene) (at : Stretch) (attributes : Attributes) (scalars : List ℕ) (old new : Written) (mapper : Mapper)
