@@ -1,7 +1,8 @@
 -- What is made of items, one node of the tree after the other.
 use Rattle.std.proofs.Common.{◌≡◌, ◌≢◌, ℕ, ◌+◌, List, [], ◌∷◌, ◌++◌, length, map, true, false, ◌||◌, if◌then◌else◌, Option, Some, None, is_some, refl, sym, ap, ◌∙◌, subst, append_assoc, arith}
 use Rattle.std.specs.Prelude.{IfSome}
-use Rattle.item_definitions.specs.Item.{Item, Items, Attributes, character, element, none, more, items_of, list_of}
+use Rattle.item_definitions.specs.Item.{Item, Attributes, character, element, items_of, list_of}
+use Rattle.operation_definitions.proofs.Lifting.{list_of-items_of}
 use Rattle.std.proofs.lemmas.List.Elements.{All-head}
 use Rattle.document_definitions.specs.Markers.{covering}
 use Rattle.view_definitions.specs.Node.{ViewNode}
@@ -145,14 +146,6 @@ run-made scene at attributes scalars old new mapper e agree =
 
 -- ---- an element
 
-list-back : (items : Items) → items_of (list_of items) ≡ items
-list-back none = refl
-list-back (more first rest) = ap (more first) (list-back rest)
-
-items-back : (list : List Item) → list_of (items_of list) ≡ list
-items-back [] = refl
-items-back (first ∷ list) = ap (λ rest. first ∷ rest) (items-back list)
-
 append-none : (bindings : List Binding) → bindings ++ [] ≡ bindings
 append-none [] = refl
 append-none (binding ∷ bindings) = ap (λ rest. binding ∷ rest) (append-none bindings)
@@ -182,7 +175,7 @@ element-made scene at id name attributes list made content layers number old bou
     ∙ sym (with_row-append (boundary scene position) (entry_of scene at.parent position at.before (element id name attributes (items_of list)) ∷ []) old) in
     let place = found_here scene name position list scene.caret (found_among scene position 0 (items_of list) mapper.caret) in
     let placed : place ≡ found_here scene name position (list_of (items_of list)) scene.caret (found_among scene position 0 (items_of list) mapper.caret) =
-    ap (λ items. found_here scene name position items scene.caret (found_among scene position 0 (items_of list) mapper.caret)) (sym (items-back list)) in
+    ap (λ items. found_here scene name position items scene.caret (found_among scene position 0 (items_of list) mapper.caret)) (sym (list_of-items_of list)) in
     let bindings : last ≡ record (with_bindings (below ++ own ∷ []) mapper) { caret = place } =
     k
     ∙ (λ i. with_binding (record { id = id; number = n i; slot = slot_of ((ap (λ (m : Converted). m.form) m) i) }) (inside.1 i))
