@@ -7,8 +7,8 @@ use Rattle.schema_definitions.specs.declared.file.SchemaFile.{SchemaFile}
 use Rattle.schema_definitions.specs.Allowed.{Rules}
 use Rattle.schema_definitions.specs.Compiled as schema
 use Rattle.schema_definitions.specs.Compiled.{refusal, compiled, unless_refused}
-use Rattle.converter_read.specs.declared.plan.ConverterPlan.{ConverterPlan}
-use Rattle.converter_read.specs.PlanNames.{first_unknown_item}
+use Rattle.converter_definitions.specs.declared.plan.ConverterPlan.{ConverterPlan}
+use Rattle.converter_definitions.specs.PlanNames.{first_unknown_item}
 use Rattle.settings_definitions.specs.declared.fault.SettingsFault.{SettingsFault}
 use Rattle.settings_definitions.specs.declared.fault.SettingsFault.TheVariants.{TwiceRegistered as SettingsTwice, UnknownItem as SettingsUnknown, BadCheck as SettingsBadCheck, NoMemory as SettingsNoMemory}
 use Rattle.settings_definitions.specs.Settings.{Form, rules_of, items_of, unknown_start, converters_refusal, refusal_of}

@@ -10,7 +10,7 @@ use crate::schema_file::{checks_at, entries_at};
 use ck_base::faults::FieldPath;
 use ck_base::name::Name;
 use converter_read::converters::converters_at;
-use converter_read::plan::ConverterPlan;
+use converter_definitions::plan::ConverterPlan;
 use json_forms::fault::FormFault;
 use json_forms::forms::{bad_field, json_of, object_at, only_fields};
 use json_names::names::optional_name;

@@ -2,7 +2,7 @@
 ghost use Rattle.std.specs.Prelude.{◌≡◌, ◌≢◌, None, IfOk, OnOk, option_copied, option_map};
 ghost use Rattle.std.specs.Option.{option_or};
 ghost use Rattle.schema_definitions.specs.Allowed.{registered};
-ghost use Rattle.converter_read.specs.PlanNames.{first_unknown_custom, first_without_converter};
+ghost use Rattle.converter_definitions.specs.PlanNames.{first_unknown_custom, first_without_converter};
 ghost use Rattle.settings_definitions.specs.declared.fault.SettingsFault.TheVariants.{UnknownItem as UnknownName};
 ghost use Rattle.settings_definitions.specs.Settings.{rules_of, unknown_start, converters_refusal, refusal_of};
 ghost use Rattle.config_read.specs.FileForm.{form_view};
@@ -12,7 +12,7 @@ ghost use Rattle.config_read.specs.Refused.{Refuses};
 use crate::file_form::FileForm;
 use crate::registered::registered_items;
 use ck_base::name::Name;
-use converter_read::plan::ConverterPlan;
+use converter_definitions::plan::ConverterPlan;
 use converter_read::plan_names::{
     first_unknown_custom, first_unknown_item, first_without_converter, has, is_generic,
 };

@@ -1,7 +1,7 @@
 //! Settings, from the bytes of their file.
 ghost use Rattle.std.specs.Prelude.{◌≡◌, ◌≢◌, None, Ok, Err, IfOk, IfErr};
 ghost use Rattle.schema_definitions.specs.Allowed.{registered};
-ghost use Rattle.converter_read.specs.PlanNames.{first_unknown_custom, first_without_converter};
+ghost use Rattle.converter_definitions.specs.PlanNames.{first_unknown_custom, first_without_converter};
 ghost use Rattle.settings_definitions.specs.Settings.{settings_of};
 ghost use Rattle.config_read.specs.Refused.{settings_view};
 
@@ -9,7 +9,7 @@ use crate::file_form::{FileForm, form_of};
 use crate::refusals::schema_of;
 use ck_base::name::Name;
 use converter_read::indexed::indexed_names;
-use converter_read::plan::ConverterPlan;
+use converter_definitions::plan::ConverterPlan;
 use schema_rules::schema::Schema;
 use settings_definitions::fault::SettingsFault;
 use std::alloc::Global;

@@ -204,8 +204,9 @@ fn with_extras(
 
 impl ConverterList {
     /// What an element with these facts becomes by all converters, in their order: its one shape, the extra attributes of the others joined to
-    /// its outermost element, and its layers, not yet sorted. `None` exactly where no converter makes a shape of it. A converter of the
-    /// product is called at most once, each call with a token of its own. It answers `NoMemory` alone beside Ok.
+    /// its outermost element, and its layers, not yet sorted. `None` exactly where no converter makes a shape of it. A call of a
+    /// converter of the product takes a token, and no more are drawn than there are such converters, also where memory runs out. It answers
+    /// `NoMemory` alone beside Ok.
     pub fn shape_for<L: Ledger>(
         &self,
         alloc: Global,

@@ -17,6 +17,7 @@ kind_from zero = Container
 kind_from (suc zero) = Empty
 kind_from (suc (suc number)) = Ui
 
+-- a kind is read back from its number
 pub kind_back : (kind : ShapeKind) → kind_from (kind_number kind) ≡ kind
 kind_back Container = refl
 kind_back Empty = refl
@@ -72,10 +73,12 @@ mutual
   read-inner {A} (more form forms) rest =
       read-form form (inner_tokens forms rest) ∙ ap (λ (r : Forms A × List (Forms A)). (more form r.0, r.1)) (read-inner forms rest)
 
+-- a list of nodes, as the children of an element and back, is itself
 pub list_of-forms_of : {A : Type 0} → (forms : List (Form A)) → list_of (forms_of forms) ≡ forms
 list_of-forms_of [] = refl
 list_of-forms_of (form ∷ forms) = ap (λ rest. form ∷ rest) (list_of-forms_of forms)
 
+-- a list of nodes is read back from its tokens
 pub forms_back : {A : Type 0} → (forms : List (Form A)) → list_of (read (inner_tokens (forms_of forms) [])).0 ≡ forms
 forms_back {A} forms =
     ap (λ (r : Forms A × List (Forms A)). list_of r.0) (read-inner (forms_of forms) []) ∙ ap list_of (joined-none (forms_of forms)) ∙ list_of-forms_of forms
@@ -92,6 +95,7 @@ abbrev first_of : {A : Type 0} → Forms A → Form A
 first_of none = slot
 first_of (more form forms) = form
 
+-- a node is read back from its tokens
 pub form_back : {A : Type 0} → (form : Form A) → first_of (read (form_tokens form [])).0 ≡ form
 form_back {A} form = ap (λ (r : Forms A × List (Forms A)). first_of r.0) (read-form form [])
 

@@ -10,4 +10,6 @@ pub mod Views
 pub mod Gives
 pub mod Priority
 pub mod Layers
+pub mod Indexed
+pub mod PlanNames
 pub mod Sample

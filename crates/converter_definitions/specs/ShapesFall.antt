@@ -18,5 +18,6 @@ most_shapes : {A : Type 0} → (nodes : List (ShapeNode A)) → most (deep-Shape
 most_shapes [] = omega arith
 most_shapes (node ∷ nodes) = omega (arith, shape_larger node, most_shapes nodes)
 
+-- the nodes of a list are no deeper than the list, as what holds their type counts them
 pub shapes_larger : {A : Type 0} → (nodes : List (ShapeNode A)) → max (most (deep-ShapeNode A) nodes) 0 ≤ depth_of (shapes_of nodes)
 shapes_larger nodes = omega (arith, most_shapes nodes)

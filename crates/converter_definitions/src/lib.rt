@@ -10,5 +10,6 @@ pub mod laws;
 pub mod layer_laws;
 pub mod part;
 pub mod pattern;
+pub mod plan;
 pub mod shape;
 pub mod stock;

@@ -2,8 +2,8 @@
 use Rattle.std.proofs.Common.{◌≡◌, ◌<◌, ◌-◌, ℕ, zero, suc, List, Bool, Option, refl, arith}
 use Rattle.serde_json.specs.Data.{Data}
 use Rattle.converter_definitions.specs.declared.kind.ShapeKind.{ShapeKind}
-use Rattle.converter_read.specs.declared.shapes.Before.{Before}
-use Rattle.converter_read.specs.ShapeForm.{node_of, node_at, below}
+use Rattle.settings_definitions.specs.declared.converter_parts.Before.{Before}
+use Rattle.settings_definitions.specs.ShapeForm.{node_of, node_at, below}
 
 -- a node is read by the reader of the next level
 pub node_level : (indexes : Bool) (levels : ℕ) (parent : Option ShapeKind) (before : Before) (path : List ℕ) (d : Data) → node_at indexes levels parent before path d ≡ node_of indexes (below indexes levels) levels parent before path d

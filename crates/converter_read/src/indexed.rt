@@ -4,13 +4,13 @@ ghost use Rattle.std.specs.Option.{option_map_or};
 ghost use Rattle.converter_definitions.specs.Form.{forms_of};
 ghost use Rattle.converter_definitions.specs.Parts.{shape_of, shapes_of};
 ghost use Rattle.converter_definitions.specs.Pattern.{is_index};
-ghost use Rattle.converter_read.specs.Indexed.{has_index, form_has_index, forms_have_index, name_if, counted_by, with_name, indexed_names};
+ghost use Rattle.converter_definitions.specs.Indexed.{has_index, form_has_index, forms_have_index, name_if, counted_by, with_name, indexed_names};
 
-use crate::plan::{ConverterPlan, PlanEntry};
 use crate::plan_names::has;
 use ck_base::NoMemory;
 use ck_base::name::Name;
 use converter_definitions::pattern::{Pattern, Patterns};
+use converter_definitions::plan::{ConverterPlan, PlanEntry};
 use converter_definitions::shape::ShapeNode;
 use converter_definitions::stock::StockConverter;
 use std::alloc::Global;

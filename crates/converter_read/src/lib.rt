@@ -1,11 +1,9 @@
-//! Reading the converters of a settings file: their grammar, with the first place that breaks it, and its reader.
+//! Reading the converters of a settings file, exactly as their grammar says, and which of their names are unknown.
 #![tactic(auto)]
 
 pub mod converters;
-mod examples;
 pub mod indexed;
 mod patterns;
-pub mod plan;
 pub mod plan_names;
 mod priorities;
 mod shapes;

@@ -1,7 +1,7 @@
 -- The bindings of a document's elements: each id and each number is bound once.
 use Rattle.std.proofs.Common.{◌≡◌, ℕ, ◌+◌, ◌≤◌, ◌==◌, nat_lt, nat_le, ◌&&◌, List, [], ◌∷◌, ◌++◌, inl, inr, Bool, true, false, if◌then◌else◌, Option, Some, None, refl, sym, ap, ◌∙◌, subst, append_assoc, append-nil, arith}
 use Rattle.std.proofs.lemmas.Bool.Decides.{nat_tests}
-use Rattle.std.proofs.lemmas.List.Elements.{All-nil, All-cons, All-head, All-tail, All-append}
+use Rattle.std.proofs.lemmas.List.Elements.{All-nil, All-cons, All-head, All-tail}
 use Rattle.std.specs.Prelude.{nat_eq, ◌||◌, All, IsSomeAnd, is_some, option_map, cond}
 use Rattle.std.specs.List.{find, IsDistinct, AllByRecursion}
 use Rattle.item_definitions.specs.Item.{Item, Items, character, element, none, more, items_of}
@@ -37,21 +37,6 @@ bindings-append conversion parent before drawn (item ∷ xs) ys =
     (bindings-append conversion parent (before + elements_in item) (drawn + elements_of item) xs ys
     ∙ (λ i. bindings_among conversion parent (before + elements_in item) (drawn + elements_of item) (items_of xs) ++ bindings_among conversion parent (n i) (m i) (items_of ys)))
     ∙ sym (append_assoc (bindings_of conversion parent before drawn item) (bindings_among conversion parent (before + elements_in item) (drawn + elements_of item) (items_of xs)) _)
-
--- one item more
-pub bindings-more : (conversion : Conversion) (parent : List ℕ) (before drawn count number : ℕ) (xs : List Item) (item : Item)
-    → count ≡ before + elements_within xs → number ≡ drawn + elements_among (items_of xs)
-    → bindings_among conversion parent before drawn (items_of (xs ++ item ∷ []))
-    ≡ bindings_among conversion parent before drawn (items_of xs) ++ bindings_of conversion parent count number item
-bindings-more conversion parent before drawn count number xs item c n =
-    bindings-append conversion parent before drawn xs (item ∷ [])
-    ∙ ap (λ made. bindings_among conversion parent before drawn (items_of xs) ++ made)
-    (append-nil (bindings_of conversion parent (before + elements_within xs) (drawn + elements_among (items_of xs)) item)
-    ∙ (λ i. bindings_of conversion parent (sym c i) (sym n i) item))
-
--- numbers agree with two lists of bindings where they agree with each
-pub agree-both : (numbers : Numbers) (xs ys : List Binding) → Agree numbers xs → Agree numbers ys → Agree numbers (xs ++ ys)
-agree-both numbers xs ys h k = All-append (λ binding. numbers binding.id ≡ Some binding.number) xs ys h k
 
 pub agree-front : (numbers : Numbers) (xs ys : List Binding) → Agree numbers (xs ++ ys) → Agree numbers xs
 agree-front numbers [] ys h = All-nil (λ binding. numbers binding.id ≡ Some binding.number)

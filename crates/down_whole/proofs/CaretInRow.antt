@@ -9,7 +9,7 @@ use Rattle.view_definitions.proofs.Joins.{PlainPieces, leaf_none, item_none}
 use Rattle.view_tree.specs.Changes.{inner_of}
 use Rattle.down_whole.specs.Between.{Opened, is_in, opened_if, opened_first, text_before, between}
 
-pub same_both : (layer other : Layer) → same_layer layer other ≡ same_layer other layer
+same_both : (layer other : Layer) → same_layer layer other ≡ same_layer other layer
 same_both layer other =
     elim (same_layer layer other) as (λ b. same_layer layer other ≡ b → b ≡ same_layer other layer) [
       | true ↦ λ e. sym (same_layer-itself layer) ∙ ap (λ l. same_layer l layer) (same_layer-true layer other e)

@@ -1,5 +1,5 @@
 -- A shape is filled from its front on: the first slot takes the content.
-use Rattle.std.proofs.Common.{◌≡◌, ℕ, zero, suc, ◌+◌, ◌≤◌, List, [], ◌∷◌, ◌++◌, refl, ap, ◌∙◌, arith}
+use Rattle.std.proofs.Common.{◌≡◌, ℕ, zero, suc, ◌+◌, ◌≤◌, List, [], ◌∷◌, ◌++◌, refl, ap, ◌∙◌, arith, append_assoc}
 use Rattle.view_definitions.specs.Node.{ViewNode, ViewAttributes, nodes_of}
 use Rattle.view_definitions.specs.Node as nodes
 use Rattle.converter_definitions.specs.Form.{Form, Forms, slot, text, element, none, more}
@@ -32,13 +32,9 @@ left_twice content zero more_count = let sum : more_count ≡ zero + more_count 
 left_twice content (suc count) zero = let sum : suc count ≡ suc count + zero = omega arith in ap (λ count. left_of count content) sum
 left_twice content (suc count) (suc more_count) = let sum : suc (count + suc more_count) ≡ suc count + suc more_count = omega arith in ap (λ count. left_of count content) sum
 
-append_thrice : (a b c : List ViewNode) → (a ++ b) ++ c ≡ a ++ (b ++ c)
-append_thrice [] b c = refl
-append_thrice (node ∷ a) b c = ap (λ nodes. node ∷ nodes) (append_thrice a b c)
-
 -- a node and those behind it are filled
 pub both_filled : (old filled_first made content left : List ViewNode) (form : Form ViewAttributes) (forms : Forms ViewAttributes) → slot_count form + inner_slots forms ≤ 1
     → filled_first ≡ old ++ filled content form → left ≡ left_of (slot_count form) content → made ≡ filled_first ++ filled_inner left forms → made ≡ old ++ filled_inner content (more form forms)
 both_filled old filled_first made content left form forms few f l m =
-    m ∙ (λ i. f i ++ filled_inner (l i) forms) ∙ append_thrice old (filled content form) (filled_inner (left_of (slot_count form) content) forms)
+    m ∙ (λ i. f i ++ filled_inner (l i) forms) ∙ append_assoc old (filled content form) (filled_inner (left_of (slot_count form) content) forms)
     ∙ ap (λ nodes. old ++ (filled content form ++ nodes)) (seam content (slot_count form) forms few)

@@ -1,5 +1,5 @@
 -- A content of which some items are made.
-use Rattle.std.proofs.Common.{◌≡◌, ℕ, zero, suc, ◌+◌, ◌*◌, ◌<◌, ◌≤◌, List, [], ◌∷◌, ◌++◌, length, take, get_or, true, refl, sym, ap, ◌∙◌, subst, mul-le-mul_left, mul-add, mul-one, arith}
+use Rattle.std.proofs.Common.{◌≡◌, ℕ, zero, suc, ◌+◌, ◌*◌, ◌<◌, ◌≤◌, List, [], ◌∷◌, ◌++◌, length, take, get_or, true, sym, ap, ◌∙◌, subst, mul-le-mul_left, mul-add, mul-one, arith}
 use Rattle.item_definitions.specs.Item.{Item, Items, Attributes, character, element, none, more, items_of, count_of, depth_of, inner_count}
 use Rattle.model_tree.specs.declared.items.Node.{Node}
 use Rattle.model_tree.specs.declared.items.Node.TheVariants.{Run, Element}
@@ -56,16 +56,6 @@ partway-step conversion scene parent path drawn xs ys all start row next_row map
       let there : HaveShapes conversion parent (0 + elements_within xs) (items_of ys) =
       (let same : before ≡ 0 + elements_within xs = p.before_is ∙ omega arith in subst (λ n. HaveShapes conversion parent n (items_of ys)) same s) in
       subst (λ list. HaveShapes conversion parent 0 (items_of list)) (sym e) (shapes-append conversion parent 0 xs ys p.shapes there);
-}
-
-pub partway-start : (conversion : Conversion) (scene : Numbers → Scene) (parent path : List ℕ) (drawn : ℕ) (start mapper : Mapper) (row : Written) → mapper ≡ start → row ≡ nothing_written
-    → Partway conversion scene parent path drawn [] start row mapper 0 0 drawn
-partway-start conversion scene parent path drawn start mapper row m r = record {
-  made = λ numbers agree i. record { row = r i; mapper = m i };
-  offset_is = refl;
-  before_is = refl;
-  number_is = omega arith;
-  shapes = tt;
 }
 
 -- characters have no shapes

@@ -1,13 +1,10 @@
 -- What is made of items, one node of the tree after the other.
 use Rattle.std.proofs.Common.{◌≡◌, ◌≢◌, ℕ, ◌+◌, List, [], ◌∷◌, ◌++◌, length, map, true, false, ◌||◌, if◌then◌else◌, Option, Some, None, is_some, refl, sym, ap, ◌∙◌, subst, append_assoc, arith}
 use Rattle.std.specs.Prelude.{IfSome}
-use Rattle.item_definitions.specs.Item.{Item, Items, Attributes, character, element, none, more, items_of, list_of}
+use Rattle.item_definitions.specs.Item.{Item, Attributes, character, element, items_of, list_of}
+use Rattle.operation_definitions.proofs.Lifting.{list_of-items_of}
 use Rattle.std.proofs.lemmas.List.Elements.{All-head}
 use Rattle.document_definitions.specs.Markers.{covering}
-use Rattle.model_tree.specs.Parts.{TextParts}
-use Rattle.model_tree.specs.declared.items.Node.{Node}
-use Rattle.model_tree.specs.declared.items.Node.TheVariants.{Run}
-use Rattle.model_tree.specs.Nodes.{items_at}
 use Rattle.view_definitions.specs.Node.{ViewNode}
 use Rattle.view_definitions.specs.Layer.{Layer}
 use Rattle.view_definitions.specs.Row.{item, nest}
@@ -138,10 +135,6 @@ pub none_within : (attributes : Attributes) (scalars : List ℕ) → elements_wi
 none_within attributes [] = refl
 none_within attributes (scalar ∷ scalars) = omega (arith, none_within attributes scalars)
 
--- a run has no elements
-pub run_within : (node : Node) (text : TextParts) → node ≡ Run text → 0 ≡ elements_within (items_at node)
-run_within node text e = sym (none_within text.attributes text.scalars) ∙ sym (ap (λ node. elements_within (items_at node)) e)
-
 -- characters were written
 pub run-made : (scene : Scene) (at : Stretch) (attributes : Attributes) (scalars : List ℕ) (old new : Written) (mapper : Mapper)
     → new ≡ with_row (run_row scene at.path at.offset attributes scalars) old → Made scene at (characters attributes scalars) (record { row = old; mapper = mapper }) (record { row = new; mapper = mapper })
@@ -152,14 +145,6 @@ run-made scene at attributes scalars old new mapper e agree =
     λ i. record { row = row i; mapper = record (bound i) { caret = caret i } }
 
 -- ---- an element
-
-list-back : (items : Items) → items_of (list_of items) ≡ items
-list-back none = refl
-list-back (more first rest) = ap (more first) (list-back rest)
-
-items-back : (list : List Item) → list_of (items_of list) ≡ list
-items-back [] = refl
-items-back (first ∷ list) = ap (λ rest. first ∷ rest) (items-back list)
 
 append-none : (bindings : List Binding) → bindings ++ [] ≡ bindings
 append-none [] = refl
@@ -190,7 +175,7 @@ element-made scene at id name attributes list made content layers number old bou
     ∙ sym (with_row-append (boundary scene position) (entry_of scene at.parent position at.before (element id name attributes (items_of list)) ∷ []) old) in
     let place = found_here scene name position list scene.caret (found_among scene position 0 (items_of list) mapper.caret) in
     let placed : place ≡ found_here scene name position (list_of (items_of list)) scene.caret (found_among scene position 0 (items_of list) mapper.caret) =
-    ap (λ items. found_here scene name position items scene.caret (found_among scene position 0 (items_of list) mapper.caret)) (sym (items-back list)) in
+    ap (λ items. found_here scene name position items scene.caret (found_among scene position 0 (items_of list) mapper.caret)) (sym (list_of-items_of list)) in
     let bindings : last ≡ record (with_bindings (below ++ own ∷ []) mapper) { caret = place } =
     k
     ∙ (λ i. with_binding (record { id = id; number = n i; slot = slot_of ((ap (λ (m : Converted). m.form) m) i) }) (inside.1 i))

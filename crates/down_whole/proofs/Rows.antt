@@ -43,13 +43,6 @@ front-append scene parent path offset before (item ∷ xs) ys =
     ∙ (λ i. front_row scene parent path (offset + 1) (before + elements_in item) xs ++ front_row scene parent path (n i) (m i) ys))
     ∙ sym (append_assoc here (entry ∷ rest) (front_row scene parent path (offset + length (item ∷ xs)) (before + elements_within (item ∷ xs)) ys))
 
--- one item more
-pub front-more : (scene : Scene) (parent path : List ℕ) (offset before at count : ℕ) (xs : List Item) (item : Item) → at ≡ offset + length xs → count ≡ before + elements_within xs
-    → front_row scene parent path offset before (xs ++ item ∷ []) ≡ front_row scene parent path offset before xs ++ (boundary scene (path ++ at ∷ []) ++ entry_of scene parent (path ++ at ∷ []) count item ∷ [])
-front-more scene parent path offset before at count xs item a c =
-    front-append scene parent path offset before xs (item ∷ [])
-    ∙ (λ i. front_row scene parent path offset before xs ++ (boundary scene (path ++ sym a i ∷ []) ++ entry_of scene parent (path ++ sym a i ∷ []) (sym c i) item ∷ []))
-
 -- what is written of two rows, one behind the other
 pub with_row-append : (row other : List Entry) (written : Written) → with_row (row ++ other) written ≡ with_row other (with_row row written)
 with_row-append [] other written = refl

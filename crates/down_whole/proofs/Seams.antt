@@ -1,5 +1,5 @@
 -- Lists of nodes that meet at the caret.
-use Rattle.std.proofs.Common.{◌≡◌, ◌↔◌, IsTrue, ℕ, List, [], ◌∷◌, ◌++◌, drop, Bool, true, false, Option, Some, None, refl, sym, ap, ◌∙◌}
+use Rattle.std.proofs.Common.{◌≡◌, ◌↔◌, IsTrue, ℕ, List, [], ◌∷◌, ◌++◌, drop, Bool, true, false, Option, Some, None, refl, sym, ap, ◌∙◌, append_assoc}
 use Rattle.std.specs.Prelude.{option_to_list, unwrap_or}
 use Rattle.view_definitions.specs.Node.{ViewNode, text, element}
 use Rattle.view_definitions.specs.Layer.{Layer, same_layer, in_layer}
@@ -56,16 +56,12 @@ apart_all (node ∷ next ∷ rest) right e = ap (λ nodes. node ∷ nodes) (apar
 pub texts_apart : (left right made : List ViewNode) → None ≡ seam_text left right → made ≡ left ++ right → made ≡ with_texts_joined left right
 texts_apart left right made s m = m ∙ apart_all left right s
 
-append_thrice : (a b c : List ViewNode) → (a ++ b) ++ c ≡ a ++ (b ++ c)
-append_thrice [] b c = refl
-append_thrice (node ∷ a) b c = ap (λ nodes. node ∷ nodes) (append_thrice a b c)
-
 -- what stands around a layer that the caret is in
 pub layer_between : (layer : Layer) (layers : List Layer) (left right front back inner pushed made before behind : List ViewNode)
     → front ≡ (opened_last layer left).0 → before ≡ (opened_last layer left).1 → back ≡ (opened_first layer right).0 → behind ≡ (opened_first layer right).1
     → inner ≡ between before layers behind → pushed ≡ front ++ in_layer layer inner ∷ [] → made ≡ pushed ++ back → made ≡ between left (layer ∷ layers) right
 layer_between layer layers left right front back inner pushed made before behind f b k h n p m =
-    m ∙ ap (λ nodes. nodes ++ back) p ∙ append_thrice front (in_layer layer inner ∷ []) back
+    m ∙ ap (λ nodes. nodes ++ back) p ∙ append_assoc front (in_layer layer inner ∷ []) back
     ∙ (λ i. f i ++ (in_layer layer ((n ∙ (λ j. between (b j) layers (h j))) i) ∷ k i))
 
 opened_end : (layer : Layer) (front : List ViewNode) (node : ViewNode) → opened_last layer (front ++ node ∷ []) ≡ opened_if (is_in layer node) front (inner_of node) (front ++ node ∷ [])

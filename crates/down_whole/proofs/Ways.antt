@@ -1,17 +1,16 @@
 -- The slot of a shape is found from its front on.
-use Rattle.std.proofs.Common.{◌≡◌, ℕ, suc, ◌+◌, ◌<◌, ◌≤◌, ◌^◌, List, [], ◌∷◌, length, true, Option, Some, None, refl, sym, ap, ◌∙◌, arith}
+use Rattle.std.proofs.Common.{◌≡◌, ℕ, suc, ◌+◌, List, [], ◌∷◌, length, Option, Some, None, refl, sym, ap, ◌∙◌}
 use Rattle.std.specs.Prelude.{option_map}
 use Rattle.std.specs.Option.{option_or}
 use Rattle.converter_definitions.specs.Form.{Form, Forms, element, none, more, list_of}
-use Rattle.std.proofs.lemmas.Bool.Decides.{nat_tests}
 use Rattle.converter_definitions.specs.declared.kind.ShapeKind.{ShapeKind}
 use Rattle.converter_definitions.specs.declared.shape.ShapeNode.TheVariants.{Element}
-use Rattle.converter_definitions.specs.Shape.{slot_in, slot_among, is_shape, form_count, inner_count}
+use Rattle.converter_definitions.specs.Shape.{slot_in, slot_among}
 use Rattle.converter_definitions.specs.declared.shape.ShapeNode.{ShapeNode}
 use Rattle.converter_definitions.specs.Form.{forms_of}
 use Rattle.converter_definitions.specs.Parts.{shape_of, shapes_of}
 use Rattle.pos_mapper.specs.Bindings.{Slot}
-use Rattle.pos_mapper.specs.Mapped.{by_slot, behind_slot, behind_among, slot_of}
+use Rattle.pos_mapper.specs.Mapped.{by_slot, behind_slot, behind_among}
 use Rattle.down_whole.specs.Ways.{way_to, way_among, way_below}
 
 first-or : {A : Type 0} (index : ℕ) (form : Form A) (forms : Forms A) (place : Option (List ℕ)) → place ≡ slot_in form
@@ -60,18 +59,3 @@ pub in_element : {A : Type 0} (index behind : ℕ) (node : ShapeNode A) (kind : 
 in_element index behind node kind name attributes children slice way below n c e w =
     in-children index behind (forms_of children) kind name attributes way below e (w ∙ ap (λ forms. way_among 0 (forms_of forms)) c)
     ∙ ap (λ node. way_to behind index (shape_of node)) (sym n)
-
--- the slot of a shape
-pub slot_found : {A : Type 0} (shape : Form A) (node : ShapeNode A) (kind : ShapeKind) (name : List ℕ) (attributes : A) (children : List (Form A)) (slice : List (ShapeNode A)) (way found : Option Slot) → shape_of node ≡ shape → node ≡ Element kind name attributes children → shapes_of slice ≡ children
-    → found ≡ way → way ≡ way_among 0 (forms_of (shapes_of slice)) → found ≡ slot_of shape
-slot_found shape node kind name attributes children slice way found s n c e w =
-    e ∙ w ∙ ap (λ forms. way_among 0 (forms_of forms)) c ∙ ap slot_of (sym (ap shape_of n) ∙ s)
-
-few-form : {A : Type 0} (form : Form A) → is_shape form ≡ true → form_count form ≤ 32
-few-form form e = grind (arith, nat_tests)
-
--- a shape has few nodes
-pub few_nodes : {A : Type 0} (shape : Form A) (node : ShapeNode A) (kind : ShapeKind) (name : List ℕ) (attributes : A) (children : List (Form A)) (slice : List (ShapeNode A)) → is_shape shape ≡ true → shape_of node ≡ shape → node ≡ Element kind name attributes children → shapes_of slice ≡ children
-    → 0 + inner_count (forms_of (shapes_of slice)) < 2 ^ 64
-few_nodes shape node kind name attributes children slice i s n c =
-    omega (arith, few-form shape i, ap form_count (sym s), ap (λ node. form_count (shape_of node)) n, ap (λ forms. inner_count (forms_of forms)) c)

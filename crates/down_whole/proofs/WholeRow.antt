@@ -51,7 +51,7 @@ written-plain (entry ∷ row) front nodes p =
     (sym (join-assoc nodes (nest (entry ∷ [])) (nest row)) ∙ ap (join nodes) (sym (nest-cons entry row p)))
 
 -- a row with the caret in it is written in two parts
-pub written-around : (row : List Entry) (layers : List Layer) (other : List Entry) → IsPlainRow row → IsPlainRow other
+written-around : (row : List Entry) (layers : List Layer) (other : List Entry) → IsPlainRow row → IsPlainRow other
     → with_row (row ++ caret_in layers ∷ other) nothing_written ≡ record { front = Some (nest row); nodes = nest other }
 written-around row layers other p q =
     with_row-append row (caret_in layers ∷ other) nothing_written
@@ -59,13 +59,13 @@ written-around row layers other p q =
     ∙ written-plain other (Some (nest row)) [] q
 
 -- and nests to these parts with the caret between them
-pub nest-around : (row : List Entry) (layers : List Layer) (other : List Entry) → IsPlainRow row → IsPlainRow other
+nest-around : (row : List Entry) (layers : List Layer) (other : List Entry) → IsPlainRow row → IsPlainRow other
     → between (nest row) layers (nest other) ≡ nest (row ++ caret_in layers ∷ other)
 nest-around row layers other p q =
     sym (ap shown (pieces-around row layers other) ∙ shown-around (pieces_of row) layers (pieces_of other) (plain-pieces row p) (plain-pieces other q))
 
 -- the caret is found between them
-pub place-around : (row : List Entry) (layers : List Layer) (other : List Entry) → IsPlainRow row → IsPlainRow other
+place-around : (row : List Entry) (layers : List Layer) (other : List Entry) → IsPlainRow row → IsPlainRow other
     → caret_at (nest row) layers (nest other) ≡ in_pieces as_place (pieces_of (row ++ caret_in layers ∷ other)) (length row) none_passed
 place-around row layers other p q =
     sym (caret-found layers (pieces_of row) (pieces_of other) (plain-pieces row p) (plain-pieces other q))
@@ -398,7 +398,7 @@ finish-some scene parent path list here layers front nodes s e d l w =
     (met-here scene parent path list here layers front nodes l w (whole-met scene parent path list here s e d (finish-in scene parent path list here front nodes s e w))).0
 
 -- and it is found there
-pub finish-place : (scene : Scene) (parent path : List ℕ) (list : List Item) (here : Caret) (layers : List Layer) (front nodes : List ViewNode)
+finish-place : (scene : Scene) (parent path : List ℕ) (list : List Item) (here : Caret) (layers : List Layer) (front nodes : List ViewNode)
     → HaveShapes scene.conversion parent 0 (items_of list) → scene.caret ≡ Some here → here.at ≢ [] → here.layers ≡ layers
     → with_row (row_of scene parent path list) nothing_written ≡ record { front = Some front; nodes = nodes }
     → caret_at front layers nodes ≡ boundary_place scene parent path list (offset_of here.at)

@@ -179,7 +179,8 @@ pub(crate) fn between(
     ensures nodes { IfOk result (λ made. made.nodes ≡ between left.nodes layers.now right.nodes) }
     ensures place { OnOk result (place.new.items ≡ place.old.items ++ caret_at left.nodes layers.now right.nodes) }
 {
-    let (mut left, mut right) = (left, right);
+    let mut left = left;
+    let mut right = right;
     let Some((layer, layers)) = layers.split_first() else {
         push_place(place, &left, &right)?;
         join_texts(&mut left, right)?;

@@ -41,7 +41,8 @@ fn strictly_around(alloc: Global, at: &Position, markers: &Markers) -> Result<Ve
 fn is_strictly_in(at: &Position, range: &Range) -> bool
     ensures { result ≡ (is_before range.now.start at.now && is_before at.now range.now.end) }
 {
-    let (start, end) = (range.start().as_slice(), range.end().as_slice());
+    let start = range.start().as_slice();
+    let end = range.end().as_slice();
     !at.as_slice().cmp(start).is_le() && !end.cmp(at.as_slice()).is_le()
 }
 

@@ -244,9 +244,10 @@ fn converted_at<L: Ledger>(
     }
 }
 
-/// What an element becomes, and the nodes of its content.
+/// An element, what it becomes, and the nodes of its content.
 #[derive(Drop)]
-struct MadeElement {
+struct MadeElement<'a> {
+    head: &'a Head,
     made: Converted,
     content: Children,
 }
@@ -256,8 +257,7 @@ fn push_element(
     list: &ConverterList,
     scene: &Scene<'_>,
     position: Path,
-    head: &Head,
-    element: MadeElement,
+    element: MadeElement<'_>,
     maker: &mut Maker,
     row: &mut RowWriter,
 ) -> Result<(), NoMemory>
@@ -265,14 +265,18 @@ fn push_element(
     requires limit { offset_of position < 4294967295 }
     requires numbers { maker.old.view.drawn < 2 ^ 64 - 1 }
     ensures row { OnOk result (written row.new ≡ with_entry (record {
-      content = item (with_number (Some maker.old.view.drawn) (only (filled element.content.nodes (converted_view element.made).form)));
-      layers = element_layers (scene_with (conversion_of (λ object. gives (object.vtable, object.value)) list.now) scene.now unnumbered) position head.now.name (converted_view element.made).layers;
+      content = item (with_number (Some maker.old.view.drawn) (only (filled element.entry.content.nodes (converted_view element.entry.made).form)));
+      layers = element_layers (scene_with (conversion_of (λ object. gives (object.vtable, object.value)) list.now) scene.now unnumbered) position element.entry.head.now.name (converted_view element.entry.made).layers;
     }) (written row.old)) }
     ensures drawn { OnOk result (maker.new.view.drawn ≡ maker.old.view.drawn + 1) }
-    ensures mapper { OnOk result (maker.new.mapper ≡ with_binding (record { id = head.now.id; number = maker.old.view.drawn; slot = slot_of (converted_view element.made).form }) maker.old.mapper) }
-    ensures shape { is_shape (converted_view element.made).form ≡ true }
+    ensures mapper { OnOk result (maker.new.mapper ≡ with_binding (record { id = element.entry.head.now.id; number = maker.old.view.drawn; slot = slot_of (converted_view element.entry.made).form }) maker.old.mapper) }
+    ensures shape { is_shape (converted_view element.entry.made).form ≡ true }
 {
-    let MadeElement { made, content } = element;
+    let MadeElement {
+        head,
+        made,
+        content,
+    } = element;
     let Converted { shape, layers } = made;
     let node = maker.make(scene.alloc, head.id(), &shape, content)?;
     let layers = element_layers(list, scene, &position, head.name(), layers.as_slice())?;
@@ -280,25 +284,31 @@ fn push_element(
     Ok(())
 }
 
-/// The content of the element of a name and at a path, in which these items are.
+/// An element by its name and its path.
+#[derive(Clone, Copy)]
+pub(crate) struct Parent<'a> {
+    pub(crate) name: &'a Name,
+    pub(crate) path: &'a Path,
+}
+
+/// The content of an element in which these items are.
 pub(crate) fn content<L: Ledger>(
     list: &ConverterList,
     scene: &Scene<'_>,
-    parent: &Name,
-    path: &Path,
+    parent: &Parent<'_>,
     items: &Items,
     maker: &mut Maker,
     steps: &mut Steps<L>,
 ) -> Result<Children, NoMemory>
     requires leaves { HasLeaves (conversion_of (λ object. gives (object.vtable, object.value)) list.now) scene.now }
-    requires short { length path.now + depth_of items.now ≤ 64 }
+    requires short { length parent.now.path.now + depth_of items.now ≤ 64 }
     requires few { count_of items.now < 2 ^ 32 }
     requires numbers { maker.old.view.drawn + count_of items.now < 2 ^ 64 - 1 }
     requires placed { IfSome (scene_caret scene.now) (λ here. here.at ≢ []) }
     ensures made { IfOk result (λ nodes. (numbers : Numbers) → MadeContent (scene_with (conversion_of (λ object. gives (object.vtable, object.value)) list.now) scene.now numbers)
-        parent.now path.now maker.old.view.drawn items.now nodes.nodes maker.old.mapper maker.new.mapper) }
+        parent.now.name.now parent.now.path.now maker.old.view.drawn items.now nodes.nodes maker.old.mapper maker.new.mapper) }
     ensures drawn { OnOk result (maker.new.view.drawn ≡ maker.old.view.drawn + elements_among (items_of items.now)) }
-    ensures shapes { OnOk result (HaveShapes (conversion_of (λ object. gives (object.vtable, object.value)) list.now) parent.now 0 (items_of items.now)) }
+    ensures shapes { OnOk result (HaveShapes (conversion_of (λ object. gives (object.vtable, object.value)) list.now) parent.now.name.now 0 (items_of items.now)) }
     ensures calls { steps.new ≤ steps.old + boxed_count (conversion_of (λ object. gives (object.vtable, object.value)) list.now).converters * elements_among (items_of items.now) }
 {
     let mut row = RowWriter::new(scene.alloc);
@@ -307,27 +317,35 @@ pub(crate) fn content<L: Ledger>(
     for node in items.nodes() {
         match node {
             Node::Run(text) => {
-                push_run(list, scene, path, offset, text, &mut row)?;
+                push_run(list, scene, parent.path, offset, text, &mut row)?;
                 offset += text.len() as u32;
                 continue;
             }
             Node::Element(head, children) => {
-                let position = position_at(path, offset);
+                let position = position_at(parent.path, offset);
                 scene.push_boundary(&position, &mut row)?;
-                let here = Here { parent, before };
+                let here = Here {
+                    parent: parent.name,
+                    before,
+                };
                 let made = converted_at(list, scene.alloc, here, head, steps)?;
-                let inner = content(list, scene, head.name(), &position, children, maker, steps)?;
+                let inside = Parent {
+                    name: head.name(),
+                    path: &position,
+                };
+                let inner = content(list, scene, &inside, children, maker, steps)?;
                 let element = MadeElement {
+                    head,
                     made,
                     content: inner,
                 };
-                push_element(list, scene, position, head, element, maker, &mut row)?;
+                push_element(list, scene, position, element, maker, &mut row)?;
                 offset += 1;
                 before += 1;
             }
         }
     }
-    scene.push_boundary(&position_at(path, offset), &mut row)?;
+    scene.push_boundary(&position_at(parent.path, offset), &mut row)?;
     let nodes = finish(scene, row, maker)?;
     Ok(nodes)
 }

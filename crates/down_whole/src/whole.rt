@@ -15,7 +15,7 @@ ghost use Rattle.down_whole.specs.Bound.{elements_among, AreBelow};
 ghost use Rattle.downcast_definitions.specs.Numbered.{AreNumbered};
 
 use crate::caret::{Caret, caret_of};
-use crate::content::content;
+use crate::content::{Parent, content};
 use crate::maker::Maker;
 use crate::scene::Scene;
 use ck_base::NoMemory;
@@ -77,23 +77,21 @@ fn made<L: Ledger>(
         mapper: Mapper::new(alloc),
     };
     let root = root_name(alloc)?;
+    let path = Path::new(alloc);
+    let parent = Parent {
+        name: &root,
+        path: &path,
+    };
     let items = document.tree().items();
-    let nodes = content(
-        list,
-        &scene,
-        &root,
-        &Path::new(alloc),
-        items,
-        &mut maker,
-        steps,
-    )?;
+    let nodes = content(list, &scene, &parent, items, &mut maker, steps)?;
     let Maker { view, mapper } = maker;
     Ok((with_nodes(alloc, view, nodes), mapper))
 }
 
 /// The view of a document, as the converters of a list make it, and the mapper of the view. Each element is numbered, and bound to its view
 /// element, also one that the view doesn't show; no two have one number. The view has drawn as many numbers as there are elements, and each
-/// that is bound is one of them. For each element each converter of the product is called at most once. It answers `NoMemory` alone beside Ok.
+/// that is bound is one of them. No more tokens are drawn than there are converters of the product times elements, also where memory runs out. It
+/// answers `NoMemory` alone beside Ok.
 pub fn downcast<L: Ledger>(
     alloc: Global,
     list: &ConverterList,

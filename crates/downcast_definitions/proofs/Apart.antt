@@ -6,9 +6,9 @@ use Rattle.view_definitions.specs.Row.{Content, leaf, item, character, caret, En
 use Rattle.view_definitions.proofs.Layers.{same_layer-true}
 use Rattle.downcast_definitions.specs.Place.{pieces_size}
 use Rattle.downcast_definitions.specs.Seen.{marked}
-use Rattle.downcast_definitions.proofs.Marks.{within_layer, behind_layer, put-cons}
+use Rattle.downcast_definitions.proofs.Marks.{within_layer, behind_layer, put-cons, put-twice}
 use Rattle.downcast_definitions.specs.Rule.{after, text_before}
-use Rattle.downcast_definitions.proofs.Marked.{head_before, size-put, two-in-one, skipped, later_below, first_below, never-behind, never-behind-put}
+use Rattle.downcast_definitions.proofs.Marked.{head_before, size-put, skipped, later_below, first_below, never-behind, never-behind-put}
 
 -- a leaf or an element
 abbrev pub IsNode : Content → Type 0
@@ -41,7 +41,7 @@ node-before (layer ∷ layers) content (other ∷ others) pieces h =
       | true ↦ λ e.
           let inner = put layers content (put others caret (within_layer layer pieces)) in
           subst (λ l. head_before (put (layer ∷ layers) content (put (l ∷ others) caret pieces)) 1 ≡ false) (same_layer-true layer other e)
-          (ap (λ p. head_before p 1) (two-in-one layer layers others content caret pieces)
+          (ap (λ p. head_before p 1) (put-twice layer layers others content caret pieces)
           ∙ ap (λ b. if b then head_before (put layers content (put others caret (within_layer layer pieces))) 1 else text_before false (behind_layer layer pieces) (1 - pieces_size (put layers content (put others caret (within_layer layer pieces)))))
           (ap (nat_lt 1) (size-put layers content (put others caret (within_layer layer pieces)) ∙ ap suc (size-put others caret (within_layer layer pieces))) ∙ later_below 0 (suc (pieces_size (within_layer layer pieces))) ∙ first_below _)
           ∙ node-before layers content others (within_layer layer pieces) h)

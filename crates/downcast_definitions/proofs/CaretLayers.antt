@@ -19,7 +19,7 @@ use Rattle.downcast_definitions.proofs.Items.{around, row-stands}
 use Rattle.downcast_definitions.proofs.Marked.{size-put, later_below, first_below}
 use Rattle.downcast_definitions.proofs.Marks.{within_layer, behind_layer, put-cons}
 use Rattle.downcast_definitions.proofs.Means.{character-joins, character-joins-behind, starts_text, shown-starts, later}
-use Rattle.downcast_definitions.proofs.Tests.{is_below, not_below}
+use Rattle.ck_base.proofs.Common.{is_below, not_below}
 
 -- ---- the layers of an entry among pieces are its own
 
@@ -206,7 +206,7 @@ map-itself None = refl
 map-itself (Some layers) = refl
 
 -- the way to a caret in a row leads through the attribute elements of its layers
-pub caret-way : (row : List Entry) (number : ℕ) → AllStand (contents_of row) → slice_get (contents_of row) number ≡ Some caret
+caret-way : (row : List Entry) (number : ℕ) → AllStand (contents_of row) → slice_get (contents_of row) number ≡ Some caret
     → layers_to (nodes_of (nest row)) (in_pieces as_place (pieces_of row) number none_passed) ≡ Some (layers_at row number)
 caret-way row number s e =
     pieces-layers (pieces_of row) number 0 None (layers_to (nodes_of (nest row))) (λ layers. layers)

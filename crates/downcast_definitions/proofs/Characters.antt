@@ -15,10 +15,10 @@ use Rattle.downcast_definitions.specs.Seen.{elements_before}
 use Rattle.downcast_definitions.specs.Shown.{HaveShapes}
 use Rattle.downcast_definitions.specs.Among.{by_around, place_in, place_among, item_in, item_among, is_character}
 use Rattle.downcast_definitions.proofs.Entries.{may_stand, AllStand, items_in, piece_contents, contents, contents_of, contents-row, stand-front, stand-rest, leaf-counts, item-counts, shown-counts}
-use Rattle.downcast_definitions.proofs.RowItems.{nth_item, nth-front, nth-rest, row-items}
+use Rattle.downcast_definitions.proofs.RowItems.{nth_item, nth-front, nth-rest, row-items, item-here}
 use Rattle.downcast_definitions.proofs.Items.{row-stands}
 use Rattle.downcast_definitions.proofs.Marked.{later_below}
-use Rattle.downcast_definitions.proofs.Tests.{is_below, below, not_below, above}
+use Rattle.ck_base.proofs.Common.{is_below, below, not_below, above}
 
 abbrev mutual
   -- the scalar value of the item of a number in a node: None where it is no character
@@ -60,10 +60,6 @@ here-is further node nodes number base h =
     ap (λ t. if t then base ∷ place_in further node number else place_among further nodes (number - model_length node) (base + 1)) (below number (model_length node) h)
     ∙ ap (λ n. n ∷ place_in further node number) (omega arith)
 
-one-here : (node : ViewNode) (nodes : ViewNodes) (number : ℕ) → number < model_length node → item_among (more node nodes) number ≡ item_in node number
-one-here node nodes number h =
-    ap (λ t. if t then item_in node number else item_among nodes (number - model_length node)) (below number (model_length node) h)
-
 text-placed : (scalars : List ℕ) (nodes : ViewNodes) (offset base number scalar : ℕ) → slice_get scalars number ≡ Some scalar → Placed (more (text scalars) nodes) offset base number scalar
 text-placed scalars nodes offset base number scalar e =
     let h = get-within scalars number scalar e in
@@ -78,10 +74,10 @@ text-placed scalars nodes offset base number scalar e =
       there = refl;
       is = e;
       means = λ inners. ap (λ b. if b then Some ((offset + number) ∷ []) else None) (le-leb number (length scalars) (omega (arith, h)));
-      one = ap is_character (one-here (text scalars) nodes number h);
+      one = ap is_character (item-here (text scalars) nodes number h);
       earlier = λ less k.
           let b : less < length scalars = omega (arith, h, k) in
-          (less, k, ap is_character (one-here (text scalars) nodes less b));
+          (less, k, ap is_character (item-here (text scalars) nodes less b));
     }
 
 in-element : (head : Head) (children nodes : ViewNodes) (offset base number scalar : ℕ) (kind : Kind) → head.kind ≡ kind → number < length_by_kind kind (inner_length children)
@@ -110,12 +106,12 @@ in-element head children nodes offset base number scalar (attribute priority id)
       there = p.there;
       is = p.is;
       means = λ inners. ap (λ kind. by_kind kind (meant_in inners offset children (p.at ∷ (p.front ++ p.index ∷ []))) (in_item inners offset (p.at ∷ (p.front ++ p.index ∷ [])))) k ∙ p.means inners;
-      one = ap is_character (one-here (element head children) nodes number less) ∙ ap (λ kind. is_character (by_around kind (item_among children number) (Some (element head children)))) k ∙ p.one;
+      one = ap is_character (item-here (element head children) nodes number less) ∙ ap (λ kind. is_character (by_around kind (item_among children number) (Some (element head children)))) k ∙ p.one;
       earlier = λ few f.
           let before = p.earlier few f in
           let m : number ≡ suc before.0 = before.1 in
           let b : before.0 < length_by_kind head.kind (inner_length children) = omega (arith, less, m) in
-          (before.0, before.1, ap is_character (one-here (element head children) nodes before.0 b) ∙ ap (λ kind. is_character (by_around kind (item_among children before.0) (Some (element head children)))) k ∙ before.2);
+          (before.0, before.1, ap is_character (item-here (element head children) nodes before.0 b) ∙ ap (λ kind. is_character (by_around kind (item_among children before.0) (Some (element head children)))) k ∙ before.2);
     }
 
 later-placed : (node : ViewNode) (nodes : ViewNodes) (offset base number scalar : ℕ) → model_length node ≤ number → Placed nodes (offset + model_length node) (base + 1) (number - model_length node) scalar
@@ -250,7 +246,7 @@ mutual
   scalars-of-pieces (first piece pieces) s =
       scalars-of-piece piece pieces s (scalars-of-pieces pieces (stand-rest (piece_contents piece) (contents pieces) s))
 
-pub scalars-of-row : (row : List Entry) → AllStand (contents_of row) → AreScalars (contents_of row) (nest row)
+scalars-of-row : (row : List Entry) → AllStand (contents_of row) → AreScalars (contents_of row) (nest row)
 scalars-of-row row s =
     subst (λ all. AreScalars all (nest row)) (contents-row row) (scalars-of-pieces (pieces_of row) (subst AllStand (sym (contents-row row)) s))
 

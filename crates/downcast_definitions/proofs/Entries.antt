@@ -114,7 +114,7 @@ leaf-length (attribute priority id) inner e = cc
 leaf-length empty inner e = cc
 leaf-length ui inner e = refl
 
-item-length : (kind : Kind) (inner : ℕ) → is_item_kind kind ≡ true → length_by_kind kind inner ≡ 1
+pub item-length : (kind : Kind) (inner : ℕ) → is_item_kind kind ≡ true → length_by_kind kind inner ≡ 1
 item-length container inner e = refl
 item-length (attribute priority id) inner e = cc
 item-length empty inner e = refl
@@ -129,7 +129,7 @@ pub item-counts : (node : ViewNode) → is_element is_item_kind node ≡ true �
 item-counts (text scalars) e = cc
 item-counts (element head children) e = item-length head.kind (inner_length children) e
 
-character-counts : (scalar : ℕ) (nodes : List ViewNode) → inner_length (nodes_of (character_before scalar nodes)) ≡ 1 + inner_length (nodes_of nodes)
+pub character-counts : (scalar : ℕ) (nodes : List ViewNode) → inner_length (nodes_of (character_before scalar nodes)) ≡ 1 + inner_length (nodes_of nodes)
 character-counts scalar [] = refl
 character-counts scalar (text scalars ∷ nodes) = omega arith
 character-counts scalar (element head children ∷ nodes) = refl

@@ -4,20 +4,16 @@ use Rattle.std.specs.Prelude.{nat_lt, if◌then◌else◌}
 use Rattle.view_definitions.specs.Layer.{Layer, same_layer}
 use Rattle.view_definitions.specs.Change.{IsBareLeaf}
 use Rattle.view_definitions.specs.Row.{Content, leaf, item, character, caret, Entry, Pieces, nothing, first, bare, wrapped, put, pieces_of}
-use Rattle.view_definitions.proofs.Layers.{same_layer-true, same_layer-itself}
+use Rattle.view_definitions.proofs.Layers.{same_layer-true}
 use Rattle.downcast_definitions.specs.Place.{pieces_size, begins_with_text}
 use Rattle.downcast_definitions.specs.Seen.{common, layers_at, layers_before, marked}
 use Rattle.downcast_definitions.proofs.Entries.{counted, items_in, contents, contents-put}
-use Rattle.downcast_definitions.proofs.Marks.{within_layer, behind_layer, put-cons}
-use Rattle.downcast_definitions.proofs.Tests.{is_below, below, first_true, second_true}
+use Rattle.downcast_definitions.proofs.Marks.{within_layer, behind_layer, put-cons, put-thrice, put-twice}
+use Rattle.ck_base.proofs.Common.{is_below, below, first as first_true, second as second_true, both}
 use Rattle.downcast_definitions.specs.Rule.{text_behind}
-use Rattle.downcast_definitions.proofs.Marked.{size-put, two-in-one, skipped, moved, later_below, first_below, behind-put}
+use Rattle.downcast_definitions.proofs.Marked.{size-put, skipped, moved, later_below, first_below, behind-put}
 use Rattle.downcast_definitions.proofs.Apart.{IsNode}
 use Rattle.downcast_definitions.proofs.Gaps.{starts_item, open_behind, before, fits}
-
-both : (a b : Bool) → a ≡ true → b ≡ true → (a && b) ≡ true
-both true b e f = f
-both false b e f = e
 
 before-put : (layers : List Layer) (content : Content) (pieces : Pieces) (number : ℕ) → before (put layers content pieces) (suc number) ≡ counted content + before pieces number
 before-put layers content pieces number = ap (λ cs. items_in (take (suc number) cs)) (contents-put layers content pieces)
@@ -73,13 +69,6 @@ open-put : (layers : List Layer) (content : Content) (pieces : Pieces) → IsEle
 open-put [] content pieces h = starts-put [] content pieces h
 open-put (layer ∷ layers) content pieces h = ap open_behind (put-cons layer layers content pieces) ∙ starts-put layers content (within_layer layer pieces) h
 
-three-in-one : (layer : Layer) (layers others thirds : List Layer) (content next last : Content) (pieces : Pieces)
-    → put (layer ∷ layers) content (put (layer ∷ others) next (put (layer ∷ thirds) last pieces))
-    ≡ first (wrapped layer (put layers content (put others next (put thirds last (within_layer layer pieces))))) (behind_layer layer pieces)
-three-in-one layer layers others thirds content next last pieces =
-    ap (put (layer ∷ layers) content) (two-in-one layer others thirds next last pieces)
-    ∙ ap (λ b. if b then first (wrapped layer (put layers content (put others next (put thirds last (within_layer layer pieces))))) (behind_layer layer pieces) else first (wrapped layer (put layers content nothing)) (first (wrapped layer (put others next (put thirds last (within_layer layer pieces)))) (behind_layer layer pieces))) (same_layer-itself layer)
-
 -- in a layer stands an element, and no leaf
 counted-in : (layer : Layer) (layers : List Layer) (content : Content) → IsNode content → IsBareLeaf content (layer ∷ layers) → counted content ≡ 1
 counted-in layer layers (leaf node) n h = cc
@@ -120,7 +109,7 @@ fits-between (layer ∷ layers) (other ∷ others) content next pieces n l h =
           let all_behind = items-put (common layers others) caret (put others next (within_layer layer pieces)) in
           let all_last = items-put others next (within_layer layer pieces) in
           subst (λ l. fits (put (layer ∷ layers) content (put (layer ∷ common layers others) caret (put (l ∷ others) next pieces))) 1 ≡ true) (same_layer-true layer other e)
-          (ap (λ p. fits p 1) (three-in-one layer layers (common layers others) others content caret next pieces)
+          (ap (λ p. fits p 1) (put-thrice layer layers (common layers others) others content caret next pieces)
           ∙ ap (λ b. if b then fits (put layers content (put (common layers others) caret (put others next (within_layer layer pieces)))) 1
           && (nat_lt 0 (before (put layers content (put (common layers others) caret (put others next (within_layer layer pieces)))) 1)
           && nat_lt (before (put layers content (put (common layers others) caret (put others next (within_layer layer pieces)))) 1) (items_in (contents (put layers content (put (common layers others) caret (put others next (within_layer layer pieces)))))))
@@ -181,7 +170,7 @@ behind-element (layer ∷ layers) (other ∷ others) next pieces h =
     elim (same_layer layer other) as (λ b. same_layer layer other ≡ b → text_behind (put (if b then layer ∷ common layers others else []) caret (put (other ∷ others) next pieces)) 0 ≡ false) [
       | true ↦ λ e.
           subst (λ l. text_behind (put (layer ∷ common layers others) caret (put (l ∷ others) next pieces)) 0 ≡ false) (same_layer-true layer other e)
-          (ap (λ p. text_behind p 0) (two-in-one layer (common layers others) others caret next pieces)
+          (ap (λ p. text_behind p 0) (put-twice layer (common layers others) others caret next pieces)
           ∙ ap (λ b. if b then text_behind (put (common layers others) caret (put others next (within_layer layer pieces))) 0 else text_behind (behind_layer layer pieces) (0 - pieces_size (put (common layers others) caret (put others next (within_layer layer pieces)))))
           (ap (nat_lt 0) (size-put (common layers others) caret (put others next (within_layer layer pieces))) ∙ first_below _)
           ∙ behind-element layers others next (within_layer layer pieces) h)

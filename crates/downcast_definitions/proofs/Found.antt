@@ -1,6 +1,5 @@
 -- Where a boundary of a document's row is seen, where the caret doesn't stand there.
 use Rattle.std.proofs.Common.{◌≡◌, ℕ, zero, suc, ◌+◌, ◌<◌, ◌≤◌, List, [], ◌∷◌, ◌++◌, take, length, Bool, true, false, Option, Some, None, refl, sym, ap, ◌∙◌, subst, append-nil, arith, length-append}
-use Rattle.std.proofs.lemmas.List.{length-map}
 use Rattle.std.proofs.lemmas.Option.{slice_get_past}
 use Rattle.std.specs.Prelude.{slice_get, option_map, option_and_then, if◌then◌else◌}
 use Rattle.std.specs.List.{filter_map, cons_option}
@@ -21,7 +20,7 @@ use Rattle.downcast_definitions.specs.Place.{as_place}
 use Rattle.downcast_definitions.specs.Seen.{entries_before, of_character, character_before, character_layers_at, between, mark_at, place_of, elements_before, boundary_place}
 use Rattle.downcast_definitions.specs.Shown.{HasShape, HaveShapes}
 use Rattle.downcast_definitions.proofs.Entries.{AllStand, items_in, contents_of, items-append, get-front, get-rest, take-rest}
-use Rattle.downcast_definitions.proofs.Items.{contents-append, Around, around, boundary-quiet, entry-stands, row-stands, shape-at}
+use Rattle.downcast_definitions.proofs.Items.{contents-append, Around, around, boundary-quiet, entry-stands, row-stands, shape-at, contents-length}
 use Rattle.downcast_definitions.specs.Among.{item_among, is_character, seen_among}
 use Rattle.downcast_definitions.specs.Rule.{IsNoCharacter}
 use Rattle.downcast_definitions.proofs.Apart.{IsNode, NodeBefore}
@@ -244,9 +243,6 @@ items-at-end all before here behind end e b z =
     ∙ ap items_in (take-rest before (here ++ behind) (length here) end b)
     ∙ ap (λ list. items_in (before ++ list)) (take-rest here behind 0 (length here) (omega arith) ∙ append-nil here)
     ∙ items-append before here ∙ quiet
-
-contents-length : (row : List Entry) → length (contents_of row) ≡ length row
-contents-length row = length-map row (λ (entry : Entry). entry.content)
 
 -- a boundary without the caret is seen where the nodes say
 pub boundary-shown : (scene : Scene) (parent path : List ℕ) (list : List Item) (offset : ℕ) → HaveShapes scene.conversion parent 0 (items_of list) → offset ≤ length list

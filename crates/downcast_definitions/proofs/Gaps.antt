@@ -1,17 +1,17 @@
 -- Where a mark between nodes is found.
-use Rattle.std.proofs.Common.{◌≡◌, ℕ, zero, suc, ◌+◌, ◌-◌, ◌<◌, ◌≤◌, List, [], ◌∷◌, ◌++◌, length, take, Bool, true, false, ◌&&◌, Option, Some, None, is_some, refl, sym, ap, ◌∙◌, subst, append_assoc, length-append, arith}
+use Rattle.std.proofs.Common.{◌≡◌, ℕ, zero, suc, ◌+◌, ◌-◌, ◌<◌, ◌≤◌, List, [], ◌∷◌, ◌++◌, length, take, Bool, true, false, ◌&&◌, Option, Some, None, is_some, refl, sym, ap, ◌∙◌, subst, length-append, arith}
 use Rattle.std.proofs.lemmas.List.{take-append-le}
-use Rattle.std.proofs.lemmas.Bool.Decides.{nat_tests}
-use Rattle.std.specs.Prelude.{slice_get, nat_lt, ◌==◌, if◌then◌else◌}
+use Rattle.std.specs.Prelude.{slice_get, nat_lt, if◌then◌else◌}
 use Rattle.view_definitions.specs.Node.{Head, ViewNode, ViewNodes, text, element, more, nodes_of}
 use Rattle.view_definitions.specs.Layer.{Layer, in_layer, layer_head}
 use Rattle.view_definitions.specs.Row.{Content, leaf, item, character, caret, Piece, Pieces, nothing, first, bare, wrapped, character_before, content_before, shown, join_node}
 use Rattle.downcast_definitions.specs.Place.{pieces_size, Passed, none_passed, behind_content, begins_with_text, as_place, in_pieces}
 use Rattle.downcast_definitions.specs.Meant.{model_length, inner_length}
 use Rattle.downcast_definitions.proofs.Entries.{may_stand, AllStand, counted, items_in, contents, contents-size, stand-front, stand-rest, items-append, get-front, get-rest, take-rest, leaf-counts, item-counts, shown-counts}
-use Rattle.downcast_definitions.proofs.Tests.{is_below, below, not_below, above, first_true, second_true}
+use Rattle.ck_base.proofs.Common.{is_below, below, not_below, above, first as first_true, second as second_true}
 use Rattle.downcast_definitions.specs.Among.{gap_in, gap_among}
 use Rattle.downcast_definitions.specs.Rule.{after, text_before, text_behind}
+use Rattle.downcast_definitions.proofs.Means.{character-joins, character-joins-behind, later}
 
 -- whether pieces begin with an item
 abbrev pub starts_item : Pieces → Bool
@@ -96,16 +96,6 @@ stop-here (first piece pieces) index s e = stop-nodes (shown (first piece pieces
 
 -- ---- joined texts
 
-character-joins : (scalar : ℕ) (nodes : List ViewNode) → character_before scalar nodes ≡ join_node (text (scalar ∷ [])) nodes
-character-joins scalar [] = refl
-character-joins scalar (text scalars ∷ nodes) = refl
-character-joins scalar (element head children ∷ nodes) = refl
-
-character-joins-behind : (scalars : List ℕ) (scalar : ℕ) (nodes : List ViewNode) → join_node (text scalars) (character_before scalar nodes) ≡ join_node (text (scalars ++ scalar ∷ [])) nodes
-character-joins-behind scalars scalar [] = refl
-character-joins-behind scalars scalar (text others ∷ nodes) = ap (λ all. text all ∷ nodes) (sym (append_assoc scalars (scalar ∷ []) others))
-character-joins-behind scalars scalar (element head children ∷ nodes) = refl
-
 -- ---- the place that is found
 
 -- that it is the gap: behind no text, and behind one of this length, which is the last node that was passed
@@ -119,12 +109,6 @@ Claim pieces =
     (number count : ℕ) (was : Option ℕ) → AllStand (contents pieces) → slice_get (contents pieces) number ≡ Some caret → fits pieces number ≡ true
     → text_before (is_some was) pieces number ≡ false → text_behind pieces number ≡ false
     → IsGap pieces number count was (in_pieces as_place pieces number (record { nodes = count; in_text = was }))
-
-not_zero : (n : ℕ) → (suc n == 0) ≡ false
-not_zero n = grind (arith, nat_tests)
-
-later : (n : ℕ) (here : List ℕ) (rest : ℕ → List ℕ) → (if suc n == 0 then here else rest (suc n - 1)) ≡ rest n
-later n here rest = ap (λ b. if b then here else rest (suc n - 1)) (not_zero n) ∙ ap rest (omega arith)
 
 -- behind an element that shows so many items
 element-gap : (head : Head) (children : ViewNodes) (counts : ℕ) (pieces : Pieces) (number count all : ℕ) (was : Option ℕ) (place : List ℕ) → model_length (element head children) ≡ counts
@@ -167,7 +151,7 @@ content-gap caret pieces number count None s h = h ∙ ap (λ n. gap_among (node
 content-gap caret pieces number count (Some len) s h = λ scalars index long is.
     h scalars index long is ∙ ap (λ n. gap_among (nodes_of (join_node (text scalars) (shown pieces))) n index) (omega arith)
 
-in_text-after : (content : Content) (count : ℕ) (was : Option ℕ) → is_some (behind_content content (record { nodes = count; in_text = was })).in_text ≡ after content (is_some was)
+pub in_text-after : (content : Content) (count : ℕ) (was : Option ℕ) → is_some (behind_content content (record { nodes = count; in_text = was })).in_text ≡ after content (is_some was)
 in_text-after (leaf node) count was = refl
 in_text-after (item node) count was = refl
 in_text-after (character scalar) count None = refl

@@ -26,6 +26,7 @@ use Rattle.downcast_definitions.specs.Shown.{HasShape, HaveShapes}
 use Rattle.downcast_definitions.proofs.Entries.{may_stand, AllStand, counted, items_in, contents_of, stand-append, items-append, get-rest, take-rest}
 use Rattle.downcast_definitions.proofs.Means.{node-means}
 use Rattle.downcast_definitions.proofs.Boundaries.{CaretLast, boundary-means}
+use Rattle.ck_base.proofs.Common.{first as first_true}
 
 -- entries of which none shows an item
 abbrev Quiet : List Entry → Type 0
@@ -84,16 +85,12 @@ last-caret row other (Some here) position e = record {
 pub boundary-caret : (scene : Scene) (position : List ℕ) → has_caret scene.caret position ≡ true → CaretLast (contents_of (boundary scene position))
 boundary-caret scene position e = last-caret (leaves scene (ends_at position)) (leaves scene (starts_at position)) scene.caret position e
 
-and-first : (a b : Bool) → (a && b) ≡ true → a ≡ true
-and-first true b e = refl
-and-first false b e = e
-
 pub shape-outermost : (form : Form ViewAttributes) → is_shape form ≡ true → is_outermost form ≡ true
 shape-outermost form e =
-    and-first (is_outermost form) (fits form)
-    (and-first (is_outermost form && fits form) (nat_le (slot_count form) 1)
-    (and-first (is_outermost form && fits form && nat_le (slot_count form) 1) (nat_le (form_count form) 32)
-    (and-first (is_outermost form && fits form && nat_le (slot_count form) 1 && nat_le (form_count form) 32) (nat_le (form_depth form) 8) e)))
+    first_true (is_outermost form) (fits form)
+    (first_true (is_outermost form && fits form) (nat_le (slot_count form) 1)
+    (first_true (is_outermost form && fits form && nat_le (slot_count form) 1) (nat_le (form_count form) 32)
+    (first_true (is_outermost form && fits form && nat_le (slot_count form) 1 && nat_le (form_count form) 32) (nat_le (form_depth form) 8) e)))
 
 -- a shape is an element that may stand for an item
 outermost-item : (number : Option ℕ) (content : List ViewNode) (form : Form ViewAttributes) → is_outermost form ≡ true → is_element is_item_kind (with_number number (only (filled content form))) ≡ true
@@ -226,7 +223,7 @@ boundary-contents scene parent path list count a =
     ∙ contents-append a.front (boundary scene (path ++ count ∷ []) ++ a.behind)
     ∙ ap (λ cs. contents_of a.front ++ cs) (contents-append (boundary scene (path ++ count ∷ [])) a.behind)
 
-contents-length : (row : List Entry) → length (contents_of row) ≡ length row
+pub contents-length : (row : List Entry) → length (contents_of row) ≡ length row
 contents-length row = length-map row (λ (entry : Entry). entry.content)
 
 start-is : (scene : Scene) (parent path : List ℕ) (list : List Item) (count : ℕ) (a : Around scene parent path 0 0 list count count) → entries_before scene path count ≡ length (contents_of a.front)

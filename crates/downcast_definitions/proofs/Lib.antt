@@ -1,6 +1,5 @@
 pub mod Marks
 pub mod Entries
-pub mod Tests
 pub mod Means
 pub mod Boundaries
 pub mod Slots

@@ -4,12 +4,11 @@ use Rattle.std.proofs.lemmas.Bool.Decides.{nat_tests}
 use Rattle.std.specs.Prelude.{nat_lt, if◌then◌else◌}
 use Rattle.view_definitions.specs.Layer.{Layer, same_layer}
 use Rattle.view_definitions.specs.Row.{Content, leaf, item, character, caret, Entry, Pieces, nothing, first, bare, wrapped, put, pieces_of}
-use Rattle.view_definitions.proofs.Layers.{same_layer-itself}
 use Rattle.downcast_definitions.specs.Place.{pieces_size}
 use Rattle.downcast_definitions.specs.Seen.{character_layers_at, of_character, marked}
 use Rattle.downcast_definitions.specs.Rule.{after, text_before, text_behind}
 use Rattle.downcast_definitions.proofs.Entries.{contents-size, contents-put}
-use Rattle.downcast_definitions.proofs.Marks.{within_layer, behind_layer, put-cons}
+use Rattle.downcast_definitions.proofs.Marks.{within_layer, behind_layer, put-twice}
 
 -- whether it might, if pieces more come before these
 abbrev pub head_before : Pieces → ℕ → Bool
@@ -135,16 +134,10 @@ never-behind-put (layer ∷ layers) content (first (wrapped other inner) pieces)
 
 -- ---- a mark behind a character, in its layers
 
-pub two-in-one : (layer : Layer) (layers others : List Layer) (content next : Content) (pieces : Pieces)
-    → put (layer ∷ layers) content (put (layer ∷ others) next pieces) ≡ first (wrapped layer (put layers content (put others next (within_layer layer pieces)))) (behind_layer layer pieces)
-two-in-one layer layers others content next pieces =
-    ap (put (layer ∷ layers) content) (put-cons layer others next pieces)
-    ∙ ap (λ b. if b then first (wrapped layer (put layers content (put others next (within_layer layer pieces)))) (behind_layer layer pieces) else first (wrapped layer (put layers content nothing)) (first (wrapped layer (put others next (within_layer layer pieces))) (behind_layer layer pieces))) (same_layer-itself layer)
-
 pub mark-behind : (layers : List Layer) (scalar : ℕ) (pieces : Pieces) (before : Bool) → text_before before (put layers (character scalar) (put layers caret pieces)) 1 ≡ true
 mark-behind [] scalar pieces before = refl
 mark-behind (layer ∷ layers) scalar pieces before =
-    ap (λ p. text_before before p 1) (two-in-one layer layers layers (character scalar) caret pieces)
+    ap (λ p. text_before before p 1) (put-twice layer layers layers (character scalar) caret pieces)
     ∙ ap (λ b. if b then text_before false (put layers (character scalar) (put layers caret (within_layer layer pieces))) 1 else text_before false (behind_layer layer pieces) (1 - pieces_size (put layers (character scalar) (put layers caret (within_layer layer pieces)))))
     (ap (nat_lt 1) (size-put layers (character scalar) (put layers caret (within_layer layer pieces)) ∙ ap suc (size-put layers caret (within_layer layer pieces))) ∙ later_below 0 (suc (pieces_size (within_layer layer pieces))) ∙ first_below _)
     ∙ mark-behind layers scalar (within_layer layer pieces) false
@@ -154,7 +147,7 @@ mark-behind (layer ∷ layers) scalar pieces before =
 pub mark-before : (layers : List Layer) (scalar : ℕ) (pieces : Pieces) → text_behind (put layers caret (put layers (character scalar) pieces)) 0 ≡ true
 mark-before [] scalar pieces = refl
 mark-before (layer ∷ layers) scalar pieces =
-    ap (λ p. text_behind p 0) (two-in-one layer layers layers caret (character scalar) pieces)
+    ap (λ p. text_behind p 0) (put-twice layer layers layers caret (character scalar) pieces)
     ∙ ap (λ b. if b then text_behind (put layers caret (put layers (character scalar) (within_layer layer pieces))) 0 else text_behind (behind_layer layer pieces) (0 - pieces_size (put layers caret (put layers (character scalar) (within_layer layer pieces)))))
     (ap (nat_lt 0) (size-put layers caret (put layers (character scalar) (within_layer layer pieces))) ∙ first_below _)
     ∙ mark-before layers scalar (within_layer layer pieces)

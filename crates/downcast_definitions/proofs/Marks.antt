@@ -32,13 +32,13 @@ put-same : (layer : Layer) (layers : List Layer) (content : Content) (inner rest
 put-same layer layers content inner rest = rw (same_layer-itself layer) refl
 
 -- two contents in one outermost layer
-put-twice : (layer : Layer) (layers others : List Layer) (content next : Content) (pieces : Pieces)
+pub put-twice : (layer : Layer) (layers others : List Layer) (content next : Content) (pieces : Pieces)
     → put (layer ∷ layers) content (put (layer ∷ others) next pieces)
     ≡ first (wrapped layer (put layers content (put others next (within_layer layer pieces)))) (behind_layer layer pieces)
 put-twice layer layers others content next pieces =
     ap (put (layer ∷ layers) content) (put-cons layer others next pieces) ∙ put-same layer layers content _ _
 
-put-thrice : (layer : Layer) (layers others thirds : List Layer) (content next last : Content) (pieces : Pieces)
+pub put-thrice : (layer : Layer) (layers others thirds : List Layer) (content next last : Content) (pieces : Pieces)
     → put (layer ∷ layers) content (put (layer ∷ others) next (put (layer ∷ thirds) last pieces))
     ≡ first (wrapped layer (put layers content (put others next (put thirds last (within_layer layer pieces))))) (behind_layer layer pieces)
 put-thrice layer layers others thirds content next last pieces =

@@ -2,7 +2,6 @@
 use Rattle.std.proofs.Common.{◌≡◌, ℕ, ◌+◌, ◌-◌, ◌<◌, ◌≤◌, zero, suc, List, [], ◌∷◌, ◌++◌, take, length, Bool, true, false, if◌then◌else◌, Option, Some, None, refl, sym, ap, ◌∙◌, subst, append_assoc, append-nil, arith, length-append}
 use Rattle.std.proofs.lemmas.List.{take-append-le}
 use Rattle.std.proofs.lemmas.Bool.{le-leb}
-use Rattle.std.proofs.lemmas.Bool.Decides.{nat_tests}
 use Rattle.std.specs.Prelude.{slice_get, nat_lt, ◌==◌}
 use Rattle.view_definitions.specs.Node.{Kind, container, attribute, empty, ui, Head, ViewNode, ViewNodes, text, element, nodes_of}
 use Rattle.view_definitions.specs.Layer.{Layer, in_layer, layer_head}
@@ -10,7 +9,7 @@ use Rattle.view_definitions.specs.Row.{Content, leaf, item, character, caret, En
 use Rattle.downcast_definitions.specs.Place.{pieces_size, Passed, none_passed, node_more, character_more, behind_content, begins_with_text, Found, as_place, as_node, in_pieces}
 use Rattle.downcast_definitions.specs.Meant.{model_length, inner_length, Inners, in_text, in_item, by_kind, meant_in}
 use Rattle.downcast_definitions.proofs.Entries.{may_stand, AllStand, counted, items_in, contents, contents_of, contents-size, contents-row, stand-front, stand-rest, items-append, get-front, get-rest, take-rest, leaf-counts, item-counts, shown-counts}
-use Rattle.downcast_definitions.proofs.Tests.{is_below, not_below}
+use Rattle.ck_base.proofs.Common.{is_below, not_below, not_zero}
 
 -- How places behind a text of this length, the last of `count` nodes, are read: so many items stand before the text, and it goes on with the
 -- nodes that are still to come.
@@ -184,9 +183,6 @@ node-base inners reads offset (element head children) nodes count (Some len) ind
     ∙ item-inside inners (h.before + length h.scalars) head.kind _ _ e
     ∙ ap (λ n. in_item inners n (index ∷ rest)) o
 
-pub not_zero : (n : ℕ) → (suc n == 0) ≡ false
-not_zero n = grind (arith, nat_tests)
-
 pub later : (n : ℕ) (here : List ℕ) (rest : ℕ → List ℕ) → (if suc n == 0 then here else rest (suc n - 1)) ≡ rest n
 later n here rest = ap (λ b. if b then here else rest (suc n - 1)) (not_zero n) ∙ ap rest (omega arith)
 
@@ -246,7 +242,7 @@ module _ (inners : Inners) (content : Content) (found : Found) (tail : List ℕ)
     pieces-mean (first piece pieces) = piece-means piece pieces (pieces-mean pieces)
 
 -- The place of an entry that is no node means the number of items before it, wherever the pieces are read,
-pub place-means-in : (inners : Inners) (pieces : Pieces) (number : ℕ) (passed : Passed) (offset : ℕ) (reads : List ℕ → Option (List ℕ)) → AllStand (contents pieces)
+place-means-in : (inners : Inners) (pieces : Pieces) (number : ℕ) (passed : Passed) (offset : ℕ) (reads : List ℕ → Option (List ℕ)) → AllStand (contents pieces)
     → slice_get (contents pieces) number ≡ Some caret → Reads inners reads offset (shown pieces) passed
     → reads (in_pieces as_place pieces number passed) ≡ Some ((offset + items_in (take number (contents pieces))) ∷ [])
 place-means-in inners pieces number passed offset reads s e h =
@@ -256,7 +252,7 @@ place-means-in inners pieces number passed offset reads s e h =
     pieces number passed offset reads s e h
 
 -- and what goes on in the node of an item is a place in the item
-pub node-means-in : (inners : Inners) (node : ViewNode) (index : ℕ) (rest : List ℕ) (pieces : Pieces) (number : ℕ) (passed : Passed) (offset : ℕ) (reads : List ℕ → Option (List ℕ)) → AllStand (contents pieces)
+node-means-in : (inners : Inners) (node : ViewNode) (index : ℕ) (rest : List ℕ) (pieces : Pieces) (number : ℕ) (passed : Passed) (offset : ℕ) (reads : List ℕ → Option (List ℕ)) → AllStand (contents pieces)
     → is_element is_item_kind node ≡ true → slice_get (contents pieces) number ≡ Some (item node) → Reads inners reads offset (shown pieces) passed
     → reads (in_pieces as_node pieces number passed ++ (index ∷ rest)) ≡ in_item inners (offset + items_in (take number (contents pieces))) (index ∷ rest)
 node-means-in inners node index rest pieces number passed offset reads s i e h =

@@ -8,9 +8,10 @@ use Rattle.view_definitions.specs.Row.{Content, leaf, item, character, caret, Pi
 use Rattle.downcast_definitions.specs.Place.{pieces_size, Passed, none_passed, character_more, behind_content, begins_with_text, as_place, in_pieces}
 use Rattle.downcast_definitions.proofs.Entries.{may_stand, AllStand, contents, contents-size, stand-front, stand-rest, get-front, get-rest}
 use Rattle.downcast_definitions.proofs.Means.{character-joins, character-joins-behind, starts_text, shown-starts, later}
-use Rattle.downcast_definitions.proofs.Tests.{is_below, not_below}
+use Rattle.ck_base.proofs.Common.{is_below, not_below}
 use Rattle.downcast_definitions.specs.Among.{by_around}
-use Rattle.downcast_definitions.specs.Rule.{after, text_before, text_behind, kind_at, kind_of}
+use Rattle.downcast_definitions.specs.Rule.{text_before, text_behind, kind_at, kind_of}
+use Rattle.downcast_definitions.proofs.Gaps.{in_text-after}
 
 -- how places behind a text are read, and places behind nodes
 record InText (reads : List ℕ → Option Bool) (nodes : List ViewNode) (count len : ℕ) : Type 0 where
@@ -100,13 +101,6 @@ place-kind reads nodes count None false s h = h count 0 [] (omega arith) ∙ fir
 place-kind reads nodes count (Some len) behind s h =
     let some : 1 ≤ count = h.some in
     h.reading (count - 1) 0 (len ∷ []) (omega (arith, some)) ∙ joined-kind h.scalars nodes len h.full
-
-in_text-after : (content : Content) (count : ℕ) (was : Option ℕ) → is_some (behind_content content (record { nodes = count; in_text = was })).in_text ≡ after content (is_some was)
-in_text-after (leaf node) count was = refl
-in_text-after (item node) count was = refl
-in_text-after (character scalar) count None = refl
-in_text-after (character scalar) count (Some len) = refl
-in_text-after caret count was = refl
 
 abbrev Claim : Pieces → Type 0
 Claim pieces =

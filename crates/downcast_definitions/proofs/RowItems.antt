@@ -13,7 +13,7 @@ use Rattle.downcast_definitions.specs.Seen.{elements_before}
 use Rattle.downcast_definitions.specs.Shown.{HaveShapes}
 use Rattle.downcast_definitions.proofs.Entries.{may_stand, AllStand, counted, items_in, contents, contents_of, contents-row, stand-front, stand-rest, leaf-counts, item-counts, shown-counts}
 use Rattle.downcast_definitions.proofs.Items.{contents-append, boundary-quiet, entry-counts, row-stands}
-use Rattle.downcast_definitions.proofs.Tests.{is_below, below, not_below, above}
+use Rattle.ck_base.proofs.Common.{is_below, below, not_below, above}
 use Rattle.downcast_definitions.specs.Among.{by_around, item_in, item_among, is_character}
 
 -- the entry that is the item of this number, leaves and carets apart
@@ -72,7 +72,7 @@ nth-rest (caret ∷ xs) ys number at h = nth-rest xs ys number at (omega (arith,
 
 -- ---- among nodes
 
-item-here : (node : ViewNode) (nodes : ViewNodes) (number : ℕ) → number < model_length node → item_among (more node nodes) number ≡ item_in node number
+pub item-here : (node : ViewNode) (nodes : ViewNodes) (number : ℕ) → number < model_length node → item_among (more node nodes) number ≡ item_in node number
 item-here node nodes number h =
     ap (λ t. if t then item_in node number else item_among nodes (number - model_length node)) (below number (model_length node) h)
 
@@ -176,7 +176,7 @@ mutual
   item-of-pieces (first piece pieces) number s = item-of-piece piece pieces (item-of-pieces pieces) number s
 
 -- and among the nodes of a row
-pub item-of-row : (row : List Entry) (number : ℕ) → AllStand (contents_of row) → IsItem (nth_item (contents_of row) number) (item_among (nodes_of (nest row)) number)
+item-of-row : (row : List Entry) (number : ℕ) → AllStand (contents_of row) → IsItem (nth_item (contents_of row) number) (item_among (nodes_of (nest row)) number)
 item-of-row row number s =
     subst (λ all. IsItem (nth_item all number) (item_among (nodes_of (nest row)) number)) (contents-row row)
     (item-of-pieces (pieces_of row) number (subst AllStand (sym (contents-row row)) s))

@@ -6,7 +6,7 @@ use Rattle.view_definitions.specs.Node.{Kind, container, attribute, empty, ui, H
 use Rattle.view_definitions.specs.Row.{Content, leaf, item, character, caret, Entry, Piece, Pieces, nothing, first, bare, wrapped, pieces_of, character_before, content_before, shown, nest, is_leaf_kind, is_item_kind}
 use Rattle.downcast_definitions.specs.Meant.{length_by_kind, model_length, inner_length, Inners, in_text, in_item, by_kind, meant_in, meant_in_node}
 use Rattle.downcast_definitions.proofs.Entries.{may_stand, AllStand, contents, contents_of, contents-row, stand-front, stand-rest, piece_contents}
-use Rattle.downcast_definitions.proofs.Tests.{below, above}
+use Rattle.ck_base.proofs.Common.{below, above}
 use Rattle.downcast_definitions.specs.Among.{by_around, place_in, place_among, item_in, item_among, is_character}
 use Rattle.downcast_definitions.specs.Rule.{kind_in, kind_at}
 

@@ -13,9 +13,11 @@ abbrev mutual
   pieces_size nothing = 0
   pieces_size (first piece pieces) = piece_size piece + pieces_size pieces
 
--- what stands before an entry in one list of nodes: how many nodes, and the length of the last one, if that is a text
+-- what stands before an entry in one list of nodes
 pub record Passed : Type 0 where
+  -- how many nodes
   pub nodes : ℕ
+  -- the length of the last one, if that is a text
   pub in_text : Option ℕ
 
 -- at the beginning of a list

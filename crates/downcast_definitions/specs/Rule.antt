@@ -1,19 +1,22 @@
 -- The rule by which positions are seen, in its words: what stands before and behind a boundary, in what text its place is, and whether the place is
 -- behind a character of it.
 use Rattle.std.specs.Prelude.{◌≡◌, ℕ, ◌+◌, ◌-◌, zero, suc, nat_lt, List, [], ◌∷◌, ◌++◌, length, Bool, true, false, Option, Some, None, option_map, slice_get, if◌then◌else◌, codes}
-use Rattle.item_definitions.specs.Item.{Item, list_of}
+use Rattle.item_definitions.specs.Item.{Item, Attributes, list_of, items_of}
 use Rattle.item_definitions.specs.Item as items
+use Rattle.item_definitions.specs.Children.{parent_of, offset_of}
 use Rattle.document_definitions.specs.Document.{Document}
 use Rattle.view_definitions.specs.Node.{ViewNode, ViewNodes, text, element, none, more, nodes_of}
 use Rattle.view_definitions.specs.Layer.{Layer, layer_of}
 use Rattle.view_definitions.specs.Place.{node_at}
-use Rattle.view_definitions.specs.Row.{Content, leaf, item, character, caret, Pieces, nothing, first, bare, wrapped, nest}
-use Rattle.downcast_definitions.specs.Scene.{Scene, boundary}
+use Rattle.view_definitions.specs.Row.{Content, leaf, item, character, caret, Pieces, nothing, first, bare, wrapped, pieces_of, nest}
+use Rattle.converter_definitions.specs.Gives.{Conversion}
+use Rattle.downcast_definitions.specs.Scene.{Scene, boundary, has_caret, scene_of}
 use Rattle.downcast_definitions.specs.Rows.{row_of}
 use Rattle.downcast_definitions.specs.Place.{pieces_size, begins_with_text}
 use Rattle.downcast_definitions.specs.Meant.{Inners, meant_in}
-use Rattle.downcast_definitions.specs.Seen.{entries_before}
-use Rattle.downcast_definitions.specs.Among.{by_around}
+use Rattle.downcast_definitions.specs.Seen.{entries_before, boundary_place, content_place}
+use Rattle.downcast_definitions.specs.Shown.{HaveShapes}
+use Rattle.downcast_definitions.specs.Among.{by_around, gap_among}
 
 -- the nodes of the content of the element at a path, or of the root
 abbrev pub content_nodes : Scene → List ℕ → List ℕ → List Item → List ViewNode
@@ -50,6 +53,41 @@ pub record IsBeforeCharacter (nodes : List ViewNode) (offset scalar : ℕ) (plac
   pub in_text : List ℕ
   pub at : IsCharacterAt nodes offset scalar in_text 0
   pub is : place ≡ in_text ++ 0 ∷ []
+
+-- that the elements of a row stand as shapes
+abbrev pub StandAsShapes : Scene → List ℕ → List Item → Type 0
+StandAsShapes scene parent list = HaveShapes scene.conversion parent 0 (items_of list)
+
+-- that the caret stands at an offset of the element at a path
+abbrev pub HasCaret : Scene → List ℕ → ℕ → Type 0
+HasCaret scene path offset = has_caret scene.caret (path ++ offset ∷ []) ≡ true
+
+-- and that it doesn't
+abbrev pub HasNoCaret : Scene → List ℕ → ℕ → Type 0
+HasNoCaret scene path offset = has_caret scene.caret (path ++ offset ∷ []) ≡ false
+
+-- that the elements of a row stand as shapes, and that the caret doesn't stand at this offset of it
+abbrev pub IsPlainBoundary : Scene → List ℕ → List ℕ → List Item → ℕ → Type 0
+IsPlainBoundary scene parent path list offset = StandAsShapes scene parent list × HasNoCaret scene path offset
+
+-- that the item at an offset is the character of a scalar value with these attributes
+abbrev pub HasCharacter : List Item → ℕ → ℕ → Attributes → Type 0
+HasCharacter list offset scalar attributes = slice_get list offset ≡ Some (items.character scalar attributes)
+
+-- that the boundary behind the character at an offset is seen in that character's text, behind it
+abbrev pub IsSeenBehind : Scene → List ℕ → List ℕ → List Item → ℕ → ℕ → Type 0
+IsSeenBehind scene parent path list offset scalar =
+    IsBehindCharacter (content_nodes scene parent path list) offset scalar (boundary_place scene parent path list (suc offset))
+
+-- that the boundary before the character at an offset is seen at the start of that character's text
+abbrev pub IsSeenBefore : Scene → List ℕ → List ℕ → List Item → ℕ → ℕ → Type 0
+IsSeenBefore scene parent path list offset scalar =
+    IsBeforeCharacter (content_nodes scene parent path list) offset scalar (boundary_place scene parent path list offset)
+
+-- that a boundary is seen behind all nodes that show no item there, in the attribute elements that go on across it
+abbrev pub IsSeenBetween : Scene → List ℕ → List ℕ → List Item → ℕ → Type 0
+IsSeenBetween scene parent path list offset =
+    boundary_place scene parent path list offset ≡ gap_among (nodes_of (content_nodes scene parent path list)) offset 0
 
 -- ---- the list that holds an entry
 
@@ -107,6 +145,16 @@ kind_of false false = None
 abbrev pub caret_number : Scene → List ℕ → ℕ → ℕ
 caret_number scene path offset = entries_before scene path offset + length (boundary scene (path ++ offset ∷ [])) - 1
 
+-- the kind of the place at the caret in the list that holds it
+abbrev pub kind_at_caret : Pieces → ℕ → Option Bool
+kind_at_caret pieces number = kind_of (text_before false pieces number) (text_behind pieces number)
+
+-- that the place where the caret's boundary is seen is of that kind
+abbrev pub IsSeenAtCaret : Scene → List ℕ → List ℕ → List Item → ℕ → Type 0
+IsSeenAtCaret scene parent path list offset =
+    kind_at (nodes_of (content_nodes scene parent path list)) (boundary_place scene parent path list offset)
+    ≡ kind_at_caret (pieces_of (row_of scene parent path list)) (caret_number scene path offset)
+
 -- ---- the attribute elements on the way
 
 -- the layers on the way into an element: None where it is no attribute element
@@ -130,6 +178,11 @@ abbrev mutual
   layers_to (more node nodes) (zero ∷ next ∷ rest) = layers_in node (next ∷ rest)
   layers_to (more node nodes) (suc index ∷ rest) = layers_to nodes (index ∷ rest)
 
+-- that the attribute elements on the way to the place where a boundary is seen are those of these layers
+abbrev pub IsSeenInLayers : Scene → List ℕ → List ℕ → List Item → ℕ → List Layer → Type 0
+IsSeenInLayers scene parent path list offset layers =
+    layers_to (nodes_of (content_nodes scene parent path list)) (boundary_place scene parent path list offset) ≡ Some layers
+
 -- ---- the parents of positions
 
 -- what an item is the parent by: an element's name and items
@@ -147,3 +200,8 @@ parent_in name list (index ∷ next ∷ rest) = in_parent (λ inner children. pa
 -- the name and the items of the parent of a position of a document
 abbrev pub parent_at : Document → List ℕ → Option (List ℕ × List Item)
 parent_at document position = parent_in (codes "$root") document.items position
+
+-- that a position is seen in the content of its own parent, at its boundary in there
+abbrev pub IsSeenInParent : Conversion → Document → List ℕ → List ℕ → List Item → Type 0
+IsSeenInParent conversion document position name list =
+    content_place conversion document position ≡ boundary_place (scene_of conversion document) name (parent_of position) list (offset_of position)

@@ -1,20 +1,18 @@
 //! What holds of every document: each function is a law, which its clauses state.
-ghost use Rattle.std.specs.Prelude.{◌≡◌, ◌≤◌, ℕ, suc, List, [], ◌∷◌, ◌++◌, length, Bool, true, false, Some, slice_get};
-ghost use Rattle.item_definitions.specs.Item.{Item, Attributes, character, items_of};
-ghost use Rattle.item_definitions.specs.Children.{parent_of, offset_of};
+ghost use Rattle.std.specs.Prelude.{◌≡◌, ◌≤◌, ℕ, suc, List, [], ◌∷◌, ◌++◌, length, Bool, true, Some, slice_get};
+ghost use Rattle.item_definitions.specs.Item.{Item, Attributes, items_of};
 ghost use Rattle.item_definitions.specs.Position.{IsIn};
 ghost use Rattle.document_definitions.specs.Document.{Document};
 ghost use Rattle.document_definitions.specs.Selection.{same_position};
-ghost use Rattle.view_definitions.specs.Node.{content, nodes_of};
-ghost use Rattle.view_definitions.specs.Row.{Entry, pieces_of, nest};
+ghost use Rattle.view_definitions.specs.Node.{content};
+ghost use Rattle.view_definitions.specs.Row.{Entry, nest};
 ghost use Rattle.converter_definitions.specs.Gives.{Conversion};
-ghost use Rattle.downcast_definitions.specs.Scene.{Numbers, Scene, Caret, has_caret, scene_of};
-ghost use Rattle.downcast_definitions.specs.Rows.{row_of, numbered_downcast, downcast};
-ghost use Rattle.downcast_definitions.specs.Seen.{mark_at, boundary_place, content_place, seen};
+ghost use Rattle.downcast_definitions.specs.Scene.{Numbers, Scene, Caret};
+ghost use Rattle.downcast_definitions.specs.Rows.{numbered_downcast, downcast};
+ghost use Rattle.downcast_definitions.specs.Seen.{mark_at, seen};
 ghost use Rattle.downcast_definitions.specs.Meant.{meant};
 ghost use Rattle.downcast_definitions.specs.Shown.{HaveShapes, HasShapes, IsShown};
-ghost use Rattle.downcast_definitions.specs.Among.{gap_among};
-ghost use Rattle.downcast_definitions.specs.Rule.{content_nodes, item_before, IsNoCharacter, IsBehindCharacter, IsBeforeCharacter, text_before, text_behind, kind_at, kind_of, layers_to, caret_number, parent_at};
+ghost use Rattle.downcast_definitions.specs.Rule.{item_before, IsNoCharacter, StandAsShapes, HasCaret, IsPlainBoundary, HasCharacter, IsSeenBehind, IsSeenBefore, IsSeenBetween, IsSeenInLayers, IsSeenAtCaret, parent_at, IsSeenInParent};
 
 /// The place of the view where a position is seen means that position, if the position is in no element without a slot and each element of the
 /// document stands as a shape. (After `Mapper` of CKEditor 5, whose `toViewPosition` and `toModelPosition` are inverse.)
@@ -36,17 +34,14 @@ pub fn numbers_are_no_content()
 /// with it the row nests to the same nodes.
 pub fn seen_by_the_rule()
     ensures behind { (scene : Scene) (parent path : List ℕ) (list : List Item) (offset scalar : ℕ) (attributes : Attributes)
-        → HaveShapes scene.conversion parent 0 (items_of list) → has_caret scene.caret (path ++ suc offset ∷ []) ≡ false
-        → slice_get list offset ≡ Some (character scalar attributes)
-        → IsBehindCharacter (content_nodes scene parent path list) offset scalar (boundary_place scene parent path list (suc offset)) }
+        → IsPlainBoundary scene parent path list (suc offset) → HasCharacter list offset scalar attributes
+        → IsSeenBehind scene parent path list offset scalar }
     ensures before { (scene : Scene) (parent path : List ℕ) (list : List Item) (offset scalar : ℕ) (attributes : Attributes)
-        → HaveShapes scene.conversion parent 0 (items_of list) → has_caret scene.caret (path ++ offset ∷ []) ≡ false
-        → IsNoCharacter (item_before list offset) → slice_get list offset ≡ Some (character scalar attributes)
-        → IsBeforeCharacter (content_nodes scene parent path list) offset scalar (boundary_place scene parent path list offset) }
+        → IsPlainBoundary scene parent path list offset → IsNoCharacter (item_before list offset)
+        → HasCharacter list offset scalar attributes → IsSeenBefore scene parent path list offset scalar }
     ensures between { (scene : Scene) (parent path : List ℕ) (list : List Item) (offset : ℕ)
-        → HaveShapes scene.conversion parent 0 (items_of list) → offset ≤ length list → has_caret scene.caret (path ++ offset ∷ []) ≡ false
-        → IsNoCharacter (item_before list offset) → IsNoCharacter (slice_get list offset)
-        → boundary_place scene parent path list offset ≡ gap_among (nodes_of (content_nodes scene parent path list)) offset 0 }
+        → IsPlainBoundary scene parent path list offset → offset ≤ length list
+        → IsNoCharacter (item_before list offset) → IsNoCharacter (slice_get list offset) → IsSeenBetween scene parent path list offset }
     ensures mark { (row : List Entry) (start end : ℕ) (caret_here : Bool) → nest (mark_at row start end caret_here).row ≡ nest row }
 {}
 
@@ -55,14 +50,12 @@ pub fn seen_by_the_rule()
 /// where one stands directly behind it there, else in no text.
 pub fn caret_seen_in_its_list()
     ensures layers { (scene : Scene) (parent path : List ℕ) (list : List Item) (offset : ℕ) (here : Caret)
-        → HaveShapes scene.conversion parent 0 (items_of list) → offset ≤ length list
+        → StandAsShapes scene parent list → offset ≤ length list
         → scene.caret ≡ Some here → same_position here.at (path ++ offset ∷ []) ≡ true
-        → layers_to (nodes_of (content_nodes scene parent path list)) (boundary_place scene parent path list offset) ≡ Some here.layers }
+        → IsSeenInLayers scene parent path list offset here.layers }
     ensures text { (scene : Scene) (parent path : List ℕ) (list : List Item) (offset : ℕ)
-        → HaveShapes scene.conversion parent 0 (items_of list) → offset ≤ length list → has_caret scene.caret (path ++ offset ∷ []) ≡ true
-        → kind_at (nodes_of (content_nodes scene parent path list)) (boundary_place scene parent path list offset)
-        ≡ kind_of (text_before false (pieces_of (row_of scene parent path list)) (caret_number scene path offset))
-        (text_behind (pieces_of (row_of scene parent path list)) (caret_number scene path offset)) }
+        → StandAsShapes scene parent list → offset ≤ length list → HasCaret scene path offset
+        → IsSeenAtCaret scene parent path list offset }
 {}
 
 /// A position of a document is seen in the content of its own parent where its boundary is, and the parent's elements stand as shapes too: so each
@@ -70,6 +63,5 @@ pub fn caret_seen_in_its_list()
 pub fn seen_in_its_parent()
     ensures { (conversion : Conversion) (document : Document) (position name : List ℕ) (list : List Item)
         → HasShapes conversion document → parent_at document position ≡ Some (name, list)
-        → HaveShapes conversion name 0 (items_of list)
-        × (content_place conversion document position ≡ boundary_place (scene_of conversion document) name (parent_of position) list (offset_of position)) }
+        → HaveShapes conversion name 0 (items_of list) × IsSeenInParent conversion document position name list }
 {}

@@ -5,10 +5,10 @@ use Rattle.std.specs.Option.{option_or}
 use Rattle.std.specs.Str.{bytes_eq}
 use Rattle.schema_definitions.specs.Names.{has}
 use Rattle.converter_definitions.specs.Gives.{Converter, boxed}
-use Rattle.converter_read.specs.declared.plan.ConverterPlan.{ConverterPlan}
-use Rattle.converter_read.specs.declared.plan.PlanEntry.{PlanEntry}
-use Rattle.converter_read.specs.declared.plan.PlanEntry.TheVariants.{Stock, Boxed}
-use Rattle.converter_read.specs.PlanNames.{is_custom, uses, unknown_custom, unknown_custom_from}
+use Rattle.converter_definitions.specs.declared.plan.ConverterPlan.{ConverterPlan}
+use Rattle.converter_definitions.specs.declared.plan.PlanEntry.{PlanEntry}
+use Rattle.converter_definitions.specs.declared.plan.PlanEntry.TheVariants.{Stock, Boxed}
+use Rattle.converter_definitions.specs.PlanNames.{is_custom, uses, unknown_custom, unknown_custom_from}
 use Rattle.converter_definitions.specs.Priority.{added}
 use Rattle.program_definitions.specs.Converters.{Givings, giving_of, converter_of, all_added, names_of}
 use Rattle.editor_core.specs.HandedIn.{IsThere}

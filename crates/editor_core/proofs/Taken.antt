@@ -7,7 +7,7 @@ use Rattle.std.specs.declared.dyn_box.DynBox.{DynBox}
 use Rattle.std.specs.List.{position, position_or_len, remove}
 use Rattle.std.specs.Str.{bytes_eq}
 use Rattle.schema_definitions.proofs.Members.{same_name}
-use Rattle.downcast_definitions.proofs.Tests.{is_below, not_below, below, above}
+use Rattle.ck_base.proofs.Common.{is_below, not_below, below, above}
 use Rattle.converter_definitions.specs.Gives.{Giving}
 use Rattle.program_definitions.specs.Converters.{Givings, giving_of}
 use Rattle.editor_core.specs.declared.extensions.NamedConverter.{NamedConverter}

@@ -4,10 +4,10 @@ use Rattle.std.specs.Global.{Global}
 use Rattle.std.specs.declared.dyn_box.DynBox.{DynBox}
 use Rattle.std.specs.Str.{bytes_eq}
 use Rattle.converter_definitions.specs.Gives.{Giving}
-use Rattle.converter_read.specs.declared.plan.PlanEntry.{PlanEntry}
-use Rattle.converter_read.specs.declared.plan.PlanEntry.TheVariants.{Stock, Boxed}
-use Rattle.converter_read.specs.declared.plan.ConverterPlan.{ConverterPlan}
-use Rattle.converter_read.specs.PlanNames.{first_unknown_custom}
+use Rattle.converter_definitions.specs.declared.plan.PlanEntry.{PlanEntry}
+use Rattle.converter_definitions.specs.declared.plan.PlanEntry.TheVariants.{Stock, Boxed}
+use Rattle.converter_definitions.specs.declared.plan.ConverterPlan.{ConverterPlan}
+use Rattle.converter_definitions.specs.PlanNames.{first_unknown_custom}
 use Rattle.program_definitions.specs.Converters.{Givings, giving_of, names_of}
 use Rattle.editor_core.specs.declared.extensions.NamedConverter.{NamedConverter}
 

@@ -24,7 +24,7 @@ use ck_base::name::Name;
 use ck_base::path::Path;
 use ck_base::steps::{Ledger, Steps};
 use conv_rules::list::ConverterList;
-use converter_read::plan::ConverterPlan;
+use converter_definitions::plan::ConverterPlan;
 use edit_definitions::edit::Edit;
 use model_doc::Document;
 use model_pos::Position;
@@ -40,7 +40,7 @@ use view_tree::view::View;
 #[derive(Debug, Drop)]
 pub struct Parts {
     pub schema: Schema,
-    /// The version of the settings, 1 or 2: in 2 neighbouring layers of the view are joined.
+    /// The version of the settings, 1 or 2: in 2 a layer of the view joins the first kept one that agrees with it.
     pub version: u32,
     /// The item of the element that a new document has.
     pub start: Option<Name>,

@@ -1,7 +1,7 @@
 //! From the converters of settings to the list of an editor.
 ghost use Rattle.std.specs.Prelude.{◌≡◌, ◌<◌, ◌==◌, ℕ, List, [], map, length, false, None, IfOk, IfSome, OnOk, option_map};
 ghost use Rattle.std.specs.Str.{bytes_eq};
-ghost use Rattle.converter_read.specs.PlanNames.{is_custom};
+ghost use Rattle.converter_definitions.specs.PlanNames.{is_custom};
 ghost use Rattle.schema_definitions.specs.Allowed.{inline_objects};
 ghost use Rattle.converter_definitions.specs.Priority.{added};
 ghost use Rattle.conv_rules.specs.Listed.{listed_of, conversion_of};
@@ -13,7 +13,7 @@ use ck_base::NoMemory;
 use ck_base::name::Name;
 use conv_rules::converter::Converter;
 use conv_rules::list::{ConverterList, Entry};
-use converter_read::plan::{ConverterPlan, PlanEntry};
+use converter_definitions::plan::{ConverterPlan, PlanEntry};
 use schema_rules::schema::Schema;
 use std::alloc::Global;
 

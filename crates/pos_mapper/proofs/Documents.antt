@@ -27,13 +27,14 @@ use Rattle.downcast_definitions.specs.Rows.{elements_in, entry_of, inner_row, sh
 use Rattle.downcast_definitions.specs.Meant.{Inners, out_of_slot, meant_in, meant_in_element, inners_of, meant}
 use Rattle.pos_mapper.specs.Bindings.{Slot, Binding, Mapper, bound_id, bound_number, numbers_of}
 use Rattle.downcast_definitions.specs.Shown.{HasShape, HaveShapes}
-use Rattle.downcast_definitions.proofs.Tests.{first_true, second_true, below}
+use Rattle.ck_base.proofs.Common.{first as first_true, second as second_true, below}
 use Rattle.pos_mapper.specs.Mapped.{slot_of, behind_slot, IsBound, AreBound, IsMapped, Means}
 use Rattle.pos_mapper.specs.Reading.{Slots, slots_in, in_slot, read, reads}
 use Rattle.pos_mapper.proofs.Uncounted.{read-uncounted}
 use Rattle.pos_mapper.proofs.Filled as filled
 use Rattle.pos_mapper.proofs.Walk.{IsRead, walk}
 use Rattle.pos_mapper.proofs.Rows.{counted, row_items, MatchItem, MatchContent, MatchRow, match-nest, nest-counts}
+use Rattle.downcast_definitions.proofs.Items.{shape-outermost}
 
 -- ---- boundaries
 
@@ -125,13 +126,6 @@ one_slot form e =
     let a = first_true (is_outermost form && fits form && nat_le (slot_count form) 1 && nat_le (form_count form) 32) (nat_le (form_depth form) 8) e in
     let b = first_true (is_outermost form && fits form && nat_le (slot_count form) 1) (nat_le (form_count form) 32) a in
     is_within (slot_count form) 1 (second_true (is_outermost form && fits form) (nat_le (slot_count form) 1) b)
-
-outermost : (form : Form ViewAttributes) → is_shape form ≡ true → is_outermost form ≡ true
-outermost form e =
-    let a = first_true (is_outermost form && fits form && nat_le (slot_count form) 1 && nat_le (form_count form) 32) (nat_le (form_depth form) 8) e in
-    let b = first_true (is_outermost form && fits form && nat_le (slot_count form) 1) (nat_le (form_count form) 32) a in
-    let c = first_true (is_outermost form && fits form) (nat_le (slot_count form) 1) b in
-    first_true (is_outermost form) (fits form) c
 
 -- an element of a shape, with a number and without
 match-shape : (slots : Slots) (inners : Inners) (depth offset : ℕ) (made : Converted) (number other : Option ℕ) (row others : List Entry) → is_outermost made.form ≡ true
@@ -234,7 +228,7 @@ mutual
       let m = match-items mapper scene children name path 0 0 (depth + 1) inside bound.1 shaped.1 (omega (arith, deep)) (omega (arith, few)) (λ k. ap (slice_get inside) (omega arith)) in
       let counts = nest-counts slots inside (depth + 1) 0 row plain m in
       let small = rows-small scene children name path 0 0 in
-      match-shape slots inners depth offset made (numbers_of mapper id) (scene.numbers id) row plain (outermost made.form shaped.0)
+      match-shape slots inners depth offset made (numbers_of mapper id) (scene.numbers id) row plain (shape-outermost made.form shaped.0)
       (λ rest last.
       ap (in_slot (reads slots rest last) depth offset (inner_of (element_node (numbers_of mapper id) made row))) (bound-slot mapper id (slot_of made.form) bound.0)
       ∙ read-shape slots depth offset made (numbers_of mapper id) row means (omega (arith, deep)) shaped.0
@@ -275,7 +269,7 @@ depth-items_of [] = refl
 depth-items_of (first ∷ list) = ap (max (item_depth first)) (depth-items_of list)
 
 -- what is read of a place in the view of a document is what it means
-pub read-means : (conversion : Conversion) (document : Document) (mapper : Mapper) (nodes : List ViewNode) → IsMapped conversion document mapper nodes → IsTree document.items → (path : List ℕ) (last : ℕ)
+read-means : (conversion : Conversion) (document : Document) (mapper : Mapper) (nodes : List ViewNode) → IsMapped conversion document mapper nodes → IsTree document.items → (path : List ℕ) (last : ℕ)
     → read (slots_in mapper.bindings) 0 [] 0 0 nodes path last ≡ meant conversion document (path ++ last ∷ [])
 read-means conversion document mapper nodes mapped limits path last =
     let slots = slots_in mapper.bindings in

@@ -7,6 +7,7 @@ use Rattle.view_definitions.specs.Row.{Content, leaf, item, character, caret, En
 use Rattle.downcast_definitions.specs.Meant.{length_by_kind, inner_length, Inners}
 use Rattle.pos_mapper.specs.Reading.{Slots}
 use Rattle.pos_mapper.proofs.Walk.{ByKind, IsRead, Match}
+use Rattle.downcast_definitions.proofs.Entries.{item-length, character-counts}
 
 -- how many items a content, pieces and a row show
 abbrev pub counted : Content → ℕ
@@ -144,12 +145,6 @@ module _ (slots : Slots) (inners : Inners) (depth : ℕ) where
   item-inside empty Around Inside e i = i
   item-inside ui Around Inside e i = cc
 
-  item-length : (kind : Kind) (inner : ℕ) → is_item_kind kind ≡ true → length_by_kind kind inner ≡ 1
-  item-length container inner e = refl
-  item-length (attribute priority id) inner e = cc
-  item-length empty inner e = refl
-  item-length ui inner e = cc
-
   match-character : (offset scalar other : ℕ) (nodes others : List ViewNode) → scalar ≡ other → Match slots inners depth (offset + 1) (nodes_of nodes) (nodes_of others)
       → Match slots inners depth offset (nodes_of (character_before scalar nodes)) (nodes_of (character_before other others))
   match-character offset scalar other [] [] e m = (ap (λ s. s ∷ []) e, tt)
@@ -194,11 +189,6 @@ module _ (slots : Slots) (inners : Inners) (depth : ℕ) where
   match-content offset caret caret nodes others c m = move (offset + 0) offset (nodes_of nodes) (nodes_of others) (omega arith) m
 
   -- ---- how many items the nodes show
-
-  character-counts : (scalar : ℕ) (nodes : List ViewNode) → inner_length (nodes_of (character_before scalar nodes)) ≡ 1 + inner_length (nodes_of nodes)
-  character-counts scalar [] = refl
-  character-counts scalar (text scalars ∷ nodes) = omega arith
-  character-counts scalar (element head children ∷ nodes) = refl
 
   content-counts : (offset : ℕ) (content other : Content) (nodes : List ViewNode) → MatchContent offset content other → inner_length (nodes_of (content_before other nodes)) ≡ counted other + inner_length (nodes_of nodes)
   content-counts offset (leaf node) (leaf (text last)) nodes c = absurd c.1

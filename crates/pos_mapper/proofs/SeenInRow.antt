@@ -192,7 +192,7 @@ root-caret conversion document known k =
     (known-caret conversion document (caret_of conversion document) refl)
 
 -- a position of a document is found where it is seen
-pub found-seen : (conversion : Conversion) (document : Document) (mapper : Mapper) (nodes : List ViewNode) (position : List ℕ) → IsMapped conversion document mapper nodes → IsIn document.items position
+found-seen : (conversion : Conversion) (document : Document) (mapper : Mapper) (nodes : List ViewNode) (position : List ℕ) → IsMapped conversion document mapper nodes → IsIn document.items position
     → (shown_at (slots_in mapper.bindings) (caret_at mapper) (caret_place_of mapper) 0 nodes position ≡ seen conversion document position) × NotEmpty (seen conversion document position)
 found-seen conversion document mapper nodes position mapped within =
     let slots = slots_in mapper.bindings in

@@ -55,7 +55,7 @@ gap-further base (more node nodes) number index =
       | false ↦ ap (gap_among nodes (number - model_length node)) (further-on base index (index + 1) refl) ∙ gap-further base nodes (number - model_length node) (index + 1)
     ]
 
-pub gap-shifted : (nodes : ViewNodes) (number base : ℕ) → gap_among nodes number base ≡ shift base (gap_among nodes number 0)
+gap-shifted : (nodes : ViewNodes) (number base : ℕ) → gap_among nodes number base ≡ shift base (gap_among nodes number 0)
 gap-shifted nodes number base = ap (gap_among nodes number) (from-none base) ∙ gap-further base nodes number 0
 
 if-shift : (b : Bool) (base : ℕ) (one other : List ℕ) → (if b then shift base one else shift base other) ≡ shift base (if b then one else other)
@@ -94,10 +94,10 @@ text-some passed behind (Some count) = tt
 text-some passed true None = tt
 text-some passed false None = tt
 
-pub as-place-some : (passed : Passed) (behind : Bool) → NotEmpty (as_place passed behind)
+as-place-some : (passed : Passed) (behind : Bool) → NotEmpty (as_place passed behind)
 as-place-some passed behind = text-some passed behind passed.in_text
 
-pub as-node-some : (passed : Passed) (behind : Bool) → NotEmpty (as_node passed behind)
+as-node-some : (passed : Passed) (behind : Bool) → NotEmpty (as_node passed behind)
 as-node-some passed behind = tt
 
 pub boundary-some : (scene : Scene) (parent path : List ℕ) (list : List Item) (offset : ℕ) → NotEmpty (boundary_place scene parent path list offset)

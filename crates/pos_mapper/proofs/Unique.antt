@@ -13,7 +13,7 @@ use Rattle.downcast_definitions.specs.Rows.{row_of}
 use Rattle.downcast_definitions.specs.Seen.{node_place}
 use Rattle.downcast_definitions.specs.Shown.{HaveShapes}
 use Rattle.downcast_definitions.proofs.Items.{node-seen}
-use Rattle.downcast_definitions.proofs.Tests.{below, above}
+use Rattle.ck_base.proofs.Common.{below, above}
 use Rattle.downcast_definitions.specs.Among.{by_around, place_in, place_among}
 
 -- places in items mean themselves

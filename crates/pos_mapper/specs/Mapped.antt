@@ -57,12 +57,15 @@ abbrev pub caret_place : Conversion → Document → Option CaretPlace
 caret_place conversion document =
     option_map (λ here. record { at = here.at; place = content_place conversion document here.at }) (caret_of conversion document)
 
--- whether these nodes are the view of a document whose view elements have the numbers that a mapper has bound, whatever their counts of
--- changes, and the mapper knows their slots and the caret's place. What the elements become are shapes
+-- That these nodes are the view of a document, and that the mapper tells where things stand in them
 pub record IsMapped (conversion : Conversion) (document : Document) (mapper : Mapper) (nodes : List ViewNode) : Type 0 where
+  -- the nodes are the document's view, its elements with the numbers that the mapper has bound, whatever their counts of changes
   pub view : uncounted nodes ≡ uncounted (numbered_downcast (numbers_of mapper) conversion document)
+  -- each element is bound, with the slot of the shape that it becomes
   pub bound : AreBound mapper (scene_of conversion document) (codes "$root") 0 (items_of document.items)
+  -- what the elements become are shapes
   pub shapes : HasShapes conversion document
+  -- the mapper knows where the caret is seen
   pub caret : mapper.caret ≡ caret_place conversion document
 
 -- That a place of the view means this, in each document that a mapper and the view's nodes are of: None where it means no position

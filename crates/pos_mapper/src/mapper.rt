@@ -5,8 +5,8 @@ ghost use Rattle.pos_mapper.specs.Bindings.{numbers_of, with_binding};
 ghost use Rattle.pos_mapper.specs.Mapped.{Shows, Means};
 
 use crate::parts::{Binding, CaretPlace, Slot};
-use crate::reading::read_nodes;
-use crate::seeking::push_shown;
+use crate::reading::{Reader, read_nodes};
+use crate::seeking::{Sought, push_shown};
 use crate::table::Table;
 use ck_base::NoMemory;
 use ck_base::path::Path;
@@ -106,17 +106,13 @@ impl Mapper {
     {
         let nodes = view.nodes().as_slice();
         let numbers = position.as_slice();
-        let caret = self.caret_at();
+        let sought = Sought {
+            table: &self.table,
+            caret: self.caret_at(),
+            caret_place: self.caret_place(),
+        };
         let mut place = Vec::new(alloc);
-        push_shown(
-            &self.table,
-            nodes,
-            0,
-            caret,
-            self.caret_place(),
-            numbers,
-            &mut place,
-        )?;
+        push_shown(&sought, nodes, 0, numbers, &mut place)?;
         Ok(as_view_place(place))
     }
 
@@ -154,7 +150,11 @@ impl Mapper {
     {
         let nodes = view.nodes().as_slice();
         let path = place.path.as_slice();
-        match read_nodes(&self.table, nodes, 0, path, place.offset, Path::new(alloc)) {
+        let reader = Reader {
+            table: &self.table,
+            last: place.offset,
+        };
+        match read_nodes(&reader, nodes, 0, path, Path::new(alloc)) {
             Some(position) => match Position::new(alloc, position) {
                 Some(position) => Ok(position),
                 None => unreachable!(),

@@ -11,6 +11,27 @@ use ck_base::path::Path;
 use view_tree::kind::ElementKind;
 use view_tree::node::{Detached, ViewNumber};
 
+/// What stays the same while a place is read: which view element has which slot, and the offset at the place's end.
+#[derive(Clone, Copy)]
+pub struct Reader<'a> {
+    pub table: &'a Table,
+    pub last: u64,
+}
+
+/// An element of the view: its number, if it has one, and its children.
+#[derive(Clone, Copy)]
+struct Element<'a> {
+    number: Option<ViewNumber>,
+    children: &'a [Detached],
+}
+
+/// The way from a list of nodes to a slot, the last index of which is where the content begins, and how many nodes stand behind the content.
+#[derive(Clone, Copy)]
+struct Way<'a> {
+    steps: &'a [u64],
+    behind: u64,
+}
+
 /// A position so far, with its last number.
 fn with_last(made: Path, offset: Option<u32>) -> Option<Path>
     requires { length made ≤ 64 }
@@ -90,44 +111,44 @@ pub fn slot_of(table: &Table, number: Option<ViewNumber>) -> Option<&Slot>
 /// The position that a place in these nodes means.
 #[cycle(reads)]
 pub fn read_nodes(
-    table: &Table,
+    reader: &Reader<'_>,
     nodes: &[Detached],
     offset: u32,
     path: &[u64],
-    last: u64,
     made: Path,
 ) -> Option<Path>
     requires { length made ≤ 64 }
     ensures some { IfSome result (λ path. 0 < length path) }
-    ensures position { result ≡ option_map (λ position. made ++ position) (read (slots_in table.now) (length made) [] 0 offset nodes.now path.now last) }
+    ensures position { result ≡ option_map (λ position. made ++ position)
+        (read (slots_in reader.now.table.now) (length made) [] 0 offset nodes.now path.now reader.now.last) }
 {
     match path.split_first() {
-        None => between_nodes(nodes, offset, last, made),
-        Some((index, rest)) => read_at(table, nodes, *index, offset, rest, last, made),
+        None => between_nodes(nodes, offset, reader.last, made),
+        Some((index, rest)) => read_at(reader, nodes, *index, offset, rest, made),
     }
 }
 
 /// The position that a place means whose first index is this, among these nodes.
 #[cycle(reads)]
 fn read_at(
-    table: &Table,
+    reader: &Reader<'_>,
     nodes: &[Detached],
     index: u64,
     offset: u32,
     path: &[u64],
-    last: u64,
     made: Path,
 ) -> Option<Path>
     requires { length made ≤ 64 }
     ensures some { IfSome result (λ path. 0 < length path) }
-    ensures position { result ≡ option_map (λ position. made ++ position) (in_nodes (slots_in table.now) (reads (slots_in table.now) path.now last) (length made) path.now last offset nodes.now index) }
+    ensures position { result ≡ option_map (λ position. made ++ position) (in_nodes (slots_in reader.now.table.now)
+        (reads (slots_in reader.now.table.now) path.now reader.now.last) (length made) path.now reader.now.last offset nodes.now index) }
 {
     let index = index as usize;
     let Some(node) = nodes.get(index) else {
         return None;
     };
     match before_node(offset, index, nodes) {
-        Some(before) => read_node(table, node, before, path, last, made),
+        Some(before) => read_node(reader, node, before, path, made),
         None => None,
     }
 }
@@ -136,78 +157,74 @@ fn read_at(
 #[cycle(reads)]
 #[tactic(auto, using(crate::proofs::Nodes::in_element, crate::proofs::Nodes::in_a_text))]
 fn read_node(
-    table: &Table,
+    reader: &Reader<'_>,
     node: &Detached,
     offset: u32,
     path: &[u64],
-    last: u64,
     made: Path,
 ) -> Option<Path>
     requires { length made ≤ 64 }
     ensures some { IfSome result (λ path. 0 < length path) }
-    ensures position { result ≡ option_map (λ position. made ++ position) (in_node (slots_in table.now) (reads (slots_in table.now) path.now last) (length made) path.now last offset node.now) }
+    ensures position { result ≡ option_map (λ position. made ++ position) (in_node (slots_in reader.now.table.now)
+        (reads (slots_in reader.now.table.now) path.now reader.now.last) (length made) path.now reader.now.last offset node.now) }
 {
     if let Some(text) = node.text() {
-        return in_text(text.scalars(), offset, path, last, made);
+        return in_text(text.scalars(), offset, path, reader.last, made);
     }
-    match (kind_of(node), node.children()) {
-        (Some(kind), Some(children)) => read_element(
-            table,
-            kind,
-            node.number(),
-            children.as_slice(),
-            offset,
-            path,
-            last,
-            made,
-        ),
-        _ => None,
-    }
+    let Some(kind) = kind_of(node) else {
+        return None;
+    };
+    let Some(children) = node.children() else {
+        return None;
+    };
+    let element = Element {
+        number: node.number(),
+        children: children.as_slice(),
+    };
+    read_element(reader, kind, &element, offset, path, made)
 }
 
-/// The position that a place in an element with these children means.
+/// The position that a place in an element of this kind means.
 #[cycle(reads)]
 fn read_element(
-    table: &Table,
+    reader: &Reader<'_>,
     kind: &ElementKind,
-    number: Option<ViewNumber>,
-    children: &[Detached],
+    element: &Element<'_>,
     offset: u32,
     path: &[u64],
-    last: u64,
     made: Path,
 ) -> Option<Path>
     requires { length made ≤ 64 }
     ensures some { IfSome result (λ path. 0 < length path) }
     ensures position { result ≡ option_map (λ position. made ++ position)
-        (by_kind (kind_of kind.now) (read (slots_in table.now) (length made) [] 0 offset children.now path.now last)
-        (in_slot (reads (slots_in table.now) path.now last) (length made) offset children.now (option_and_then (slots_in table.now) number))) }
+        (by_kind (kind_of kind.now) (read (slots_in reader.now.table.now) (length made) [] 0 offset element.now.children.now path.now reader.now.last)
+        (in_slot (reads (slots_in reader.now.table.now) path.now reader.now.last) (length made) offset element.now.children.now
+        (option_and_then (slots_in reader.now.table.now) element.now.number))) }
 {
     match kind {
-        ElementKind::Container => { read_inside(table, number, children, offset, path, last, made) }
-        ElementKind::Attribute { .. } => read_nodes(table, children, offset, path, last, made),
-        ElementKind::Empty => read_inside(table, number, children, offset, path, last, made),
+        ElementKind::Container => read_inside(reader, element, offset, path, made),
+        ElementKind::Attribute { .. } => read_nodes(reader, element.children, offset, path, made),
+        ElementKind::Empty => read_inside(reader, element, offset, path, made),
         ElementKind::Ui => None,
     }
 }
 
-/// The position that a place in a view element with these children means, which shows an element of the document.
+/// The position that a place in a view element means which shows an element of the document.
 #[cycle(reads)]
 #[tactic(auto, using(crate::proofs::Nodes::one_deeper))]
 fn read_inside(
-    table: &Table,
-    number: Option<ViewNumber>,
-    children: &[Detached],
+    reader: &Reader<'_>,
+    element: &Element<'_>,
     offset: u32,
     path: &[u64],
-    last: u64,
     made: Path,
 ) -> Option<Path>
     requires { length made ≤ 64 }
     ensures some { IfSome result (λ path. 0 < length path) }
-    ensures position { result ≡ option_map (λ position. made ++ position) (in_slot (reads (slots_in table.now) path.now last) (length made) offset children.now (option_and_then (slots_in table.now) number)) }
+    ensures position { result ≡ option_map (λ position. made ++ position) (in_slot (reads (slots_in reader.now.table.now) path.now reader.now.last)
+        (length made) offset element.now.children.now (option_and_then (slots_in reader.now.table.now) element.now.number)) }
 {
-    let Some(slot) = slot_of(table, number) else {
+    let Some(slot) = slot_of(reader.table, element.number) else {
         return None;
     };
     if made.len() >= 64 {
@@ -215,38 +232,34 @@ fn read_inside(
     }
     let mut made = made;
     made.push(offset);
-    read_slot(
-        table,
-        children,
-        slot.place.as_slice(),
-        slot.behind,
-        path,
-        last,
-        made,
-    )
+    let way = Way {
+        steps: slot.place.as_slice(),
+        behind: slot.behind,
+    };
+    read_slot(reader, element.children, &way, path, made)
 }
 
 /// The position that a place in an element means, from whose children this way leads to the slot.
 #[cycle(reads)]
 #[tactic(auto, using(crate::proofs::Nodes::no_way))]
 fn read_slot(
-    table: &Table,
+    reader: &Reader<'_>,
     nodes: &[Detached],
-    way: &[u64],
-    behind: u64,
+    way: &Way<'_>,
     path: &[u64],
-    last: u64,
     made: Path,
 ) -> Option<Path>
     requires { length made ≤ 64 }
     ensures some { IfSome result (λ path. 0 < length path) }
-    ensures position { result ≡ option_map (λ position. made ++ position) (read (slots_in table.now) (length made) way.now behind 0 nodes.now path.now last) }
+    ensures position { result ≡ option_map (λ position. made ++ position)
+        (read (slots_in reader.now.table.now) (length made) way.now.steps.now way.now.behind 0 nodes.now path.now reader.now.last) }
 {
-    match way.split_first() {
-        None => read_nodes(table, nodes, 0, path, last, made),
-        Some((first, further)) => match further.split_first() {
-            None => read_content(table, nodes, *first, behind, path, last, made),
-            Some(_) => read_step(table, nodes, *first, further, behind, path, last, made),
+    let behind = way.behind;
+    match way.steps.split_first() {
+        None => read_nodes(reader, nodes, 0, path, made),
+        Some((first, steps)) => match steps.split_first() {
+            None => read_content(reader, nodes, *first, behind, path, made),
+            Some(_) => read_step(reader, nodes, *first, &Way { steps, behind }, path, made),
         },
     }
 }
@@ -254,19 +267,20 @@ fn read_slot(
 /// The position that a place in a list means in which the content begins at a base.
 #[cycle(reads)]
 fn read_content(
-    table: &Table,
+    reader: &Reader<'_>,
     nodes: &[Detached],
     base: u64,
     behind: u64,
     path: &[u64],
-    last: u64,
     made: Path,
 ) -> Option<Path>
     requires { length made ≤ 64 }
     ensures some { IfSome result (λ path. 0 < length path) }
-    ensures position { result ≡ option_map (λ position. made ++ position) (read (slots_in table.now) (length made) (base ∷ []) behind 0 nodes.now path.now last) }
+    ensures position { result ≡ option_map (λ position. made ++ position)
+        (read (slots_in reader.now.table.now) (length made) (base ∷ []) behind 0 nodes.now path.now reader.now.last) }
 {
     let content = content_of(nodes, base, behind);
+    let last = reader.last;
     match path.split_first() {
         None => {
             if base <= last {
@@ -277,7 +291,7 @@ fn read_content(
         }
         Some((index, rest)) => {
             if base <= *index {
-                read_at(table, content, *index - base, 0, rest, last, made)
+                read_at(reader, content, *index - base, 0, rest, made)
             } else {
                 None
             }
@@ -288,18 +302,17 @@ fn read_content(
 /// The position that a place means whose first index is this step on the way.
 #[cycle(reads)]
 fn read_step(
-    table: &Table,
+    reader: &Reader<'_>,
     nodes: &[Detached],
     step: u64,
-    way: &[u64],
-    behind: u64,
+    way: &Way<'_>,
     path: &[u64],
-    last: u64,
     made: Path,
 ) -> Option<Path>
     requires { length made ≤ 64 }
     ensures some { IfSome result (λ path. 0 < length path) }
-    ensures position { result ≡ option_map (λ position. made ++ position) (read_step (slots_in table.now) (length made) step way.now behind nodes.now path.now last) }
+    ensures position { result ≡ option_map (λ position. made ++ position)
+        (read_step (slots_in reader.now.table.now) (length made) step way.now.steps.now way.now.behind nodes.now path.now reader.now.last) }
 {
     let Some((index, rest)) = path.split_first() else {
         return None;
@@ -311,7 +324,7 @@ fn read_step(
         return None;
     };
     match node.children() {
-        Some(children) => read_slot(table, children.as_slice(), way, behind, rest, last, made),
+        Some(children) => read_slot(reader, children.as_slice(), way, rest, made),
         None => None,
     }
 }

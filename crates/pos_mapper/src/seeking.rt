@@ -329,25 +329,33 @@ fn split_way(way: &[u64]) -> (&[u64], u64)
     }
 }
 
+/// What tells where a position is seen: which view element has which slot, what is left of the caret's position, and the caret's place in
+/// the content of its parent.
+#[derive(Clone, Copy)]
+pub struct Sought<'a> {
+    pub table: &'a Table,
+    pub caret: Option<&'a [u32]>,
+    pub caret_place: &'a [u64],
+}
+
 /// Puts the place where a position is seen among these nodes behind others, where the first of the nodes has this index.
 #[cycle(shows)]
 pub fn push_shown(
-    table: &Table,
+    sought: &Sought<'_>,
     nodes: &[Detached],
     base: u64,
-    caret: Option<&[u32]>,
-    caret_place: &[u64],
     numbers: &[u32],
     place: &mut Vec<u64>,
 ) -> Result<(), NoMemory>
     requires { base + length nodes.now < 2 ^ 64 }
-    ensures { OnOk result (place.new.items ≡ place.old.items ++ shown_at (slots_in table.now) (option_copied caret.entry) caret_place.now base nodes.now numbers.now) }
+    ensures { OnOk result (place.new.items ≡ place.old.items
+        ++ shown_at (slots_in sought.now.table.now) (option_copied sought.now.caret) sought.now.caret_place.now base nodes.now numbers.now) }
 {
     match numbers.split_first() {
         None => Ok(()),
         Some((index, rest)) => match rest.split_first() {
-            None => push_seen_at(nodes, base, *index, caret, caret_place, place),
-            Some(_) => push_in_item(table, nodes, base, caret, caret_place, *index, rest, place),
+            None => push_seen_at(nodes, base, *index, sought.caret, sought.caret_place, place),
+            Some(_) => push_in_item(sought, nodes, base, *index, rest, place),
         },
     }
 }
@@ -355,28 +363,28 @@ pub fn push_shown(
 /// Puts the place where a position in the item of a number is seen behind others: at the boundary before an item without a slot.
 #[cycle(shows)]
 fn push_in_item(
-    table: &Table,
+    sought: &Sought<'_>,
     nodes: &[Detached],
     base: u64,
-    caret: Option<&[u32]>,
-    caret_place: &[u64],
     index: u32,
     rest: &[u32],
     place: &mut Vec<u64>,
 ) -> Result<(), NoMemory>
     requires { base + length nodes.now < 2 ^ 64 }
     ensures { OnOk result (place.new.items ≡ place.old.items
-        ++ in_item (λ first inner. shown_at (slots_in table.now) (below_index index (option_copied caret.entry)) caret_place.now first inner rest.now)
-        (seen_at (option_copied caret.entry) caret_place.now base nodes.now index) (place_among 0 (nodes_of nodes.now) index base)
-        (children_at (item_among (nodes_of nodes.now) index)) (slot_at (slots_in table.now) (item_among (nodes_of nodes.now) index))) }
+        ++ in_item (λ first inner. shown_at (slots_in sought.now.table.now) (below_index index (option_copied sought.now.caret)) sought.now.caret_place.now first inner rest.now)
+        (seen_at (option_copied sought.now.caret) sought.now.caret_place.now base nodes.now index) (place_among 0 (nodes_of nodes.now) index base)
+        (children_at (item_among (nodes_of nodes.now) index)) (slot_at (slots_in sought.now.table.now) (item_among (nodes_of nodes.now) index))) }
 {
+    let caret = sought.caret;
+    let caret_place = sought.caret_place;
     let Some(node) = item_at(nodes, index) else {
         return push_seen_at(nodes, base, index, caret, caret_place, place);
     };
     let Some(children) = node.children() else {
         return push_seen_at(nodes, base, index, caret, caret_place, place);
     };
-    let Some(slot) = slot_of(table, node.number()) else {
+    let Some(slot) = slot_of(sought.table, node.number()) else {
         return push_seen_at(nodes, base, index, caret, caret_place, place);
     };
     let way = slot.place.as_slice();
@@ -386,13 +394,10 @@ fn push_in_item(
     push_place_from(nodes, base, index, 0, place)?;
     let (front, first) = split_way(way);
     place.extend_from_slice(front)?;
-    push_shown(
-        table,
-        inner,
-        first,
-        below(index, caret),
+    let below = Sought {
+        table: sought.table,
+        caret: below(index, caret),
         caret_place,
-        rest,
-        place,
-    )
+    };
+    push_shown(&below, inner, first, rest, place)
 }

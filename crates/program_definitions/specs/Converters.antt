@@ -6,9 +6,9 @@ use Rattle.schema_definitions.specs.Allowed.{inline_objects}
 use Rattle.converter_definitions.specs.Gives.{Converter, stock, boxed, Conversion}
 use Rattle.converter_definitions.specs.Gives.{Giving}
 use Rattle.converter_definitions.specs.Priority.{added}
-use Rattle.converter_read.specs.declared.plan.ConverterPlan.{ConverterPlan}
-use Rattle.converter_read.specs.declared.plan.PlanEntry.{PlanEntry}
-use Rattle.converter_read.specs.declared.plan.PlanEntry.TheVariants.{Stock, Boxed}
+use Rattle.converter_definitions.specs.declared.plan.ConverterPlan.{ConverterPlan}
+use Rattle.converter_definitions.specs.declared.plan.PlanEntry.{PlanEntry}
+use Rattle.converter_definitions.specs.declared.plan.PlanEntry.TheVariants.{Stock, Boxed}
 use Rattle.settings_definitions.specs.Settings.{Settings}
 
 -- what products' converters give, by their names
@@ -35,7 +35,7 @@ abbrev pub names_of : Givings → List (List ℕ)
 names_of givings = map (λ entry. entry.0) givings
 
 -- what converters of settings make of elements, with the names of the objects in the text and those of the elements that are counted, where
--- neighbouring layers are joined in version 2
+-- in version 2 layers are joined: each joins the first kept one that agrees with it
 abbrev pub conversion_by : Givings → ℕ → List ConverterPlan → List (List ℕ) → List (List ℕ) → Conversion
 conversion_by givings version plans objects indexed = record {
   converters = map (λ entry. entry.1) (all_added givings [] plans);

@@ -32,10 +32,10 @@ use Rattle.converter_definitions.specs.declared.stock.StockConverter.TheVariants
 use Rattle.converter_definitions.specs.Form.{Form}
 use Rattle.converter_definitions.specs.Shape.{form_with}
 use Rattle.converter_definitions.specs.Gives.{part, stock, Conversion, gift_if, filled_in, element_form, shape_gift, stock_gift, gift, converted, is_named}
-use Rattle.converter_read.specs.declared.plan.ConverterPlan.{ConverterPlan}
-use Rattle.converter_read.specs.declared.plan.PlanEntry.{PlanEntry}
-use Rattle.converter_read.specs.declared.plan.PlanEntry.TheVariants.{Stock, Boxed}
-use Rattle.converter_read.specs.PlanNames.{is_bare, is_unconditional, converts, first_unknown_item, first_unknown_custom, first_without_converter}
+use Rattle.converter_definitions.specs.declared.plan.ConverterPlan.{ConverterPlan}
+use Rattle.converter_definitions.specs.declared.plan.PlanEntry.{PlanEntry}
+use Rattle.converter_definitions.specs.declared.plan.PlanEntry.TheVariants.{Stock, Boxed}
+use Rattle.converter_definitions.specs.PlanNames.{is_bare, is_unconditional, converts, first_unknown_item, first_unknown_custom, first_without_converter}
 use Rattle.ck_base.specs.Name.{is_generic}
 use Rattle.json_forms.specs.declared.fault.FormFault.{FormFault}
 use Rattle.settings_definitions.specs.declared.fault.SettingsFault.{SettingsFault}

@@ -10,8 +10,8 @@ use Rattle.converter_definitions.specs.declared.part.Part.TheVariants.{Shape, Ex
 use Rattle.converter_definitions.specs.declared.stock.StockConverter.{StockConverter}
 use Rattle.converter_definitions.specs.Facts.{is_left}
 use Rattle.converter_definitions.specs.Gives.{Converter, stock, boxed, Conversion, converted}
-use Rattle.converter_read.specs.declared.plan.ConverterPlan.{ConverterPlan}
-use Rattle.converter_read.specs.declared.plan.PlanEntry.TheVariants.{Stock}
+use Rattle.converter_definitions.specs.declared.plan.ConverterPlan.{ConverterPlan}
+use Rattle.converter_definitions.specs.declared.plan.PlanEntry.TheVariants.{Stock}
 use Rattle.ck_base.specs.Name.{is_generic}
 
 -- each converter that the plans describe themselves is among the converters, in whatever order

@@ -1,5 +1,11 @@
 pub mod Faults
 pub mod SchemaForm
+pub mod PatternForm
+pub mod PriorityForm
+pub mod ViewForm
+pub mod ShapeForm
+pub mod ConverterForm
+pub mod ConverterRows
 pub mod Settings
 pub mod Texts
 pub mod Converting

@@ -14,11 +14,11 @@ use Rattle.schema_definitions.specs.declared.file.Check.{Check}
 use Rattle.schema_definitions.specs.Names.{has}
 use Rattle.schema_definitions.specs.Allowed.{Rules, registrations, registered}
 use Rattle.schema_definitions.specs.Compiled.{predefined, first_repeated, first_unknown, first_bad_check}
-use Rattle.converter_read.specs.declared.plan.ConverterPlan.{ConverterPlan}
-use Rattle.converter_read.specs.ConverterForm.{converters_at}
-use Rattle.converter_read.specs.PlanNames.{first_unknown_item, first_unknown_custom, first_without_converter}
+use Rattle.converter_definitions.specs.declared.plan.ConverterPlan.{ConverterPlan}
+use Rattle.settings_definitions.specs.ConverterForm.{converters_at}
+use Rattle.converter_definitions.specs.PlanNames.{first_unknown_item, first_unknown_custom, first_without_converter}
+use Rattle.converter_definitions.specs.Indexed.{indexed_names}
 use Rattle.ck_base.specs.Name.{is_generic}
-use Rattle.converter_read.specs.Indexed.{indexed_names}
 use Rattle.settings_definitions.specs.declared.fault.SettingsFault.{SettingsFault}
 use Rattle.settings_definitions.specs.declared.fault.SettingsFault.TheVariants.{TwiceRegistered, UnknownItem, BadCheck, UnknownCustom, NoConverter}
 use Rattle.settings_definitions.specs.Faults.{of_form}

@@ -6,7 +6,7 @@ ghost use Rattle.schema_definitions.specs.Compiled.{bare};
 ghost use Rattle.json_forms.specs.declared.fault.FormFault.TheVariants as form;
 ghost use Rattle.converter_definitions.specs.declared.pattern.Pattern.TheVariants.{Index};
 ghost use Rattle.converter_definitions.specs.declared.stock.StockConverter.TheVariants.{ElementToElement};
-ghost use Rattle.converter_read.specs.ConverterForm.{stock_plan};
+ghost use Rattle.settings_definitions.specs.ConverterForm.{stock_plan};
 ghost use Rattle.settings_definitions.specs.Settings.{form_of, settings_of};
 ghost use Rattle.settings_definitions.specs.declared.fault.SettingsFault.TheVariants.{NotJson, BadField, TwiceRegistered, UnknownItem, BadCheck, UnknownCustom, NoConverter};
 

@@ -19,6 +19,7 @@ kind_from (inl (Some true)) = empty
 kind_from (inl (Some false)) = ui
 kind_from (inr parts) = attribute parts.0 parts.1
 
+-- a kind is read back from its parts
 pub kind_back : (kind : Kind) → kind_from (kind_parts kind) ≡ kind
 kind_back container = refl
 kind_back (attribute priority id) = refl
@@ -88,10 +89,12 @@ mutual
   read-inner (more node nodes) rest =
       read-node node (inner_tokens nodes rest) ∙ ap (λ (r : ViewNodes × List ViewNodes). (more node r.0, r.1)) (read-inner nodes rest)
 
+-- a list of nodes, as the children of an element and back, is itself
 pub list_of-nodes_of : (nodes : List ViewNode) → list_of (nodes_of nodes) ≡ nodes
 list_of-nodes_of [] = refl
 list_of-nodes_of (node ∷ nodes) = ap (λ rest. node ∷ rest) (list_of-nodes_of nodes)
 
+-- a list of nodes is read back from its tokens
 pub nodes_back : (nodes : List ViewNode) → list_of (read (inner_tokens (nodes_of nodes) [])).0 ≡ nodes
 nodes_back nodes =
     ap (λ (r : ViewNodes × List ViewNodes). list_of r.0) (read-inner (nodes_of nodes) []) ∙ ap list_of (joined-none (nodes_of nodes)) ∙ list_of-nodes_of nodes
@@ -108,6 +111,7 @@ abbrev first_of : ViewNodes → ViewNode
 first_of none = text []
 first_of (more node nodes) = node
 
+-- a node is read back from its tokens
 pub node_back : (node : ViewNode) → first_of (read (node_tokens node [])).0 ≡ node
 node_back node = ap (λ (r : ViewNodes × List ViewNodes). first_of r.0) (read-node node [])
 

@@ -11,6 +11,7 @@ inner_depth-nodes_of : (nodes : List ViewNode) → inner_depth (nodes_of nodes) 
 inner_depth-nodes_of [] = refl
 inner_depth-nodes_of (node ∷ nodes) = ap (max (node_depth node)) (inner_depth-nodes_of nodes)
 
+-- what is in the list of children falls, as a function goes from a node into the list
 pub node_larger : (node : Node) → max (deep-Node node) 0 ≤ 2 * node_depth (node_view node)
 node_larger (Text scalars alloc) = omega arith
 node_larger (Element head children) = omega (arith, inner_depth-nodes_of children.nodes)

@@ -228,7 +228,7 @@ module _ (layer : Layer) where
         ∙ join-assoc (unwrapped_node layer node) (unwrapped layer (list_of (more next rest))) (unwrapped layer nodes)
 
   -- a layer less goes through joined lists
-  pub unwrapped-join : (nodes others : List ViewNode) → unwrapped layer (join nodes others) ≡ join (unwrapped layer nodes) (unwrapped layer others)
+  unwrapped-join : (nodes others : List ViewNode) → unwrapped layer (join nodes others) ≡ join (unwrapped layer nodes) (unwrapped layer others)
   unwrapped-join nodes others =
       ap (unwrapped layer) (list_join nodes others) ∙ unwrapped-inner_joins (nodes_of nodes) others
       ∙ ap (λ list. join (unwrapped layer list) (unwrapped layer others)) (list_of-nodes_of nodes)

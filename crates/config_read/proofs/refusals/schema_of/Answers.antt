@@ -2,7 +2,7 @@ use Rattle.std.proofs.Common.{◌≡◌, ◌++◌, IfOk, option_copied, option_m
 use Rattle.std.specs.Option.{option_or}
 use Rattle.schema_definitions.specs.Allowed.{registrations}
 use Rattle.schema_definitions.specs.Compiled.{predefined}
-use Rattle.converter_read.specs.PlanNames.{first_unknown_item}
+use Rattle.converter_definitions.specs.PlanNames.{first_unknown_item}
 use Rattle.settings_definitions.specs.declared.fault.SettingsFault.TheVariants.{UnknownItem}
 use Rattle.settings_definitions.specs.Settings.{items_of, unknown_start, converters_refusal}
 use Rattle.config_read.specs.FileForm.{form_view}

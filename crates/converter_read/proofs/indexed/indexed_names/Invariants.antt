@@ -1,5 +1,5 @@
 use Rattle.std.proofs.Common.{◌≡◌, drop, fold}
-use Rattle.converter_read.specs.Indexed.{counted_by, with_name, indexed_names}
+use Rattle.converter_definitions.specs.Indexed.{counted_by, with_name, indexed_names}
 use Rattle.converter_read.proofs.indexed.indexed_names.Given as goal
 
 -- the names so far, and those of what is left

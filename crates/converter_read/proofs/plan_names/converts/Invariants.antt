@@ -1,5 +1,5 @@
 use Rattle.std.proofs.Common.{◌≡◌, drop}
-use Rattle.converter_read.specs.PlanNames.{converts}
+use Rattle.converter_definitions.specs.PlanNames.{converts}
 use Rattle.converter_read.proofs.plan_names.converts.Given as goal
 
 -- what is left tells

@@ -1,5 +1,5 @@
 use Rattle.std.proofs.Common.{◌≡◌, drop, take}
-use Rattle.converter_read.specs.PlanNames.{unknown_custom_from, first_unknown_custom}
+use Rattle.converter_definitions.specs.PlanNames.{unknown_custom_from, first_unknown_custom}
 use Rattle.converter_read.proofs.plan_names.first_unknown_custom.Given as goal
 
 -- what is left tells, behind what was passed over

@@ -1,5 +1,5 @@
 use Rattle.std.proofs.Common.{◌≡◌, drop}
-use Rattle.converter_read.specs.PlanNames.{first_unknown_item}
+use Rattle.converter_definitions.specs.PlanNames.{first_unknown_item}
 use Rattle.converter_read.proofs.plan_names.first_unknown_item.Given as goal
 
 -- what is left tells

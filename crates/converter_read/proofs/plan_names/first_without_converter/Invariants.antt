@@ -1,5 +1,5 @@
 use Rattle.std.proofs.Common.{◌≡◌, drop}
-use Rattle.converter_read.specs.PlanNames.{first_without_converter}
+use Rattle.converter_definitions.specs.PlanNames.{first_without_converter}
 use Rattle.converter_read.proofs.plan_names.first_without_converter.Given as goal
 
 -- what is left tells

@@ -8,10 +8,10 @@ use Rattle.json_names.specs.Names.{name_at, name_field, names_at, name_list_fiel
 use Rattle.json_values.specs.Values.{attributes_field}
 use Rattle.schema_definitions.specs.Allowed.{registered}
 use Rattle.schema_definitions.specs.Compiled.{predefined, first_unknown, first_bad_check}
-use Rattle.converter_read.specs.PatternForm.{from_pattern, index_pattern, object_pattern, pattern_at, key_pattern_at, patterns_from, patterns_field}
-use Rattle.converter_read.specs.PriorityForm.{priority_field}
-use Rattle.converter_read.specs.ViewForm.{empty_type_field, element_view_at}
-use Rattle.converter_read.specs.ConverterForm.{only_element_fields, element_converter_at, index_field, only_indexed_fields, only_plain_fields, only_custom_fields, custom_converter_at, kind_of, kind_field, kind_converter_at, converter_at, converters_at}
+use Rattle.settings_definitions.specs.PatternForm.{from_pattern, index_pattern, object_pattern, pattern_at, key_pattern_at, patterns_from, patterns_field}
+use Rattle.settings_definitions.specs.PriorityForm.{priority_field}
+use Rattle.settings_definitions.specs.ViewForm.{empty_type_field, element_view_at}
+use Rattle.settings_definitions.specs.ConverterForm.{only_element_fields, element_converter_at, index_field, only_indexed_fields, only_plain_fields, only_custom_fields, custom_converter_at, kind_of, kind_field, kind_converter_at, converter_at, converters_at}
 use Rattle.settings_definitions.specs.SchemaForm.{subject_at, list_name, flag_name, list_at, flag_at, places_at, sources_at, flags_at, entry_of, only_entry_fields, entry_at, entries_at, child_check_at, attribute_check_at, check_at, checks_at}
 use Rattle.settings_definitions.specs.Settings.{entries_field, checks_field, converters_field, form_at, form_of, refusal_of, settings_of}
 use Rattle.settings_definitions.proofs.examples.refusals.Goals as goal

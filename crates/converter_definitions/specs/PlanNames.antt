@@ -7,9 +7,9 @@ use Rattle.ck_base.specs.declared.value.Value.{Value as AttributeValue}
 use Rattle.ck_base.specs.Name.{is_generic}
 use Rattle.schema_definitions.specs.Names.{has}
 use Rattle.converter_definitions.specs.declared.stock.StockConverter.TheVariants.{ElementToElement, ElementToStructure, AttributeToElement, AttributeToAttribute, MarkerToHighlight, MarkerToElement}
-use Rattle.converter_read.specs.declared.plan.ConverterPlan.{ConverterPlan}
-use Rattle.converter_read.specs.declared.plan.PlanEntry.{PlanEntry}
-use Rattle.converter_read.specs.declared.plan.PlanEntry.TheVariants.{Stock, Boxed}
+use Rattle.converter_definitions.specs.declared.plan.ConverterPlan.{ConverterPlan}
+use Rattle.converter_definitions.specs.declared.plan.PlanEntry.{PlanEntry}
+use Rattle.converter_definitions.specs.declared.plan.PlanEntry.TheVariants.{Stock, Boxed}
 
 -- a name that isn't among the known ones
 abbrev pub unless_known : List (List ℕ) → List ℕ → Option (List ℕ)

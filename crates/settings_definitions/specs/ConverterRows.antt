@@ -6,12 +6,12 @@ use Rattle.json_forms.specs.Form.{◌>>=◌, or_bad, json_of}
 use Rattle.converter_definitions.specs.declared.pattern.Pattern.{Pattern}
 use Rattle.converter_definitions.specs.Form.{Form}
 use Rattle.converter_definitions.specs.Pattern.{Patterns}
-use Rattle.converter_read.specs.declared.plan.ConverterPlan.{ConverterPlan}
-use Rattle.converter_read.specs.PatternForm.{pattern_at}
-use Rattle.converter_read.specs.PriorityForm.{priority_field}
-use Rattle.converter_read.specs.ShapeForm.{shape_at}
-use Rattle.converter_read.specs.ConverterForm.{converter_at, converters_at}
-use Rattle.converter_read.specs.Indexed.{indexed_names}
+use Rattle.converter_definitions.specs.declared.plan.ConverterPlan.{ConverterPlan}
+use Rattle.settings_definitions.specs.PatternForm.{pattern_at}
+use Rattle.settings_definitions.specs.PriorityForm.{priority_field}
+use Rattle.settings_definitions.specs.ShapeForm.{shape_at}
+use Rattle.settings_definitions.specs.ConverterForm.{converter_at, converters_at}
+use Rattle.converter_definitions.specs.Indexed.{indexed_names}
 
 -- a converter, and a list of them
 abbrev pub converter_in : Bool → List ℕ → Result ConverterPlan FormFault

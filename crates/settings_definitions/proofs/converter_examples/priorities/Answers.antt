@@ -6,8 +6,8 @@ use Rattle.ck_base.specs.Name.{is_name}
 use Rattle.json_forms.specs.Form.{json_of, object_at, field_at, only_fields}
 use Rattle.json_names.specs.Names.{name_field, optional_name, truth_field, count_field}
 use Rattle.json_values.specs.Values.{value_at, attribute_at, attributes_from, attributes_field}
-use Rattle.converter_read.specs.PriorityForm.{priority_field, layer_priority_field}
-use Rattle.converter_read.proofs.examples.priorities.Goals as goal
+use Rattle.settings_definitions.specs.PriorityForm.{priority_field, layer_priority_field}
+use Rattle.settings_definitions.proofs.converter_examples.priorities.Goals as goal
 
 pub returns-clause-greatest : goal.returns-clause-greatest
 unfolding serde_json_on_literals chars is_utf8 digits is_name json_of object_at field_at only_fields name_field optional_name truth_field count_field value_at attribute_at attributes_from attributes_field priority_field layer_priority_field

@@ -18,8 +18,8 @@ use Rattle.converter_definitions.specs.declared.stock.LayerView.{LayerView}
 use Rattle.converter_definitions.specs.declared.stock.AttributeView.{AttributeView}
 use Rattle.converter_definitions.specs.declared.stock.HighlightView.{HighlightView}
 use Rattle.converter_definitions.specs.declared.stock.Leaf.{Leaf}
-use Rattle.converter_read.specs.PatternForm.{pattern_at, patterns_field, texts_field}
-use Rattle.converter_read.specs.PriorityForm.{layer_priority_field}
+use Rattle.settings_definitions.specs.PatternForm.{pattern_at, patterns_field, texts_field}
+use Rattle.settings_definitions.specs.PriorityForm.{layer_priority_field}
 
 -- whether the word of a type is `empty`, if it is one of the two types
 abbrev pub is_empty_type : List ℕ → Option Bool

@@ -24,14 +24,14 @@ use Rattle.converter_definitions.specs.declared.pattern.Pattern.{Pattern}
 use Rattle.converter_definitions.specs.declared.stock.StockConverter.{StockConverter}
 use Rattle.converter_definitions.specs.declared.stock.StockConverter.TheVariants.{ElementToElement, ElementToStructure, AttributeToElement, AttributeToAttribute, MarkerToHighlight, MarkerToElement}
 use Rattle.converter_definitions.specs.Pattern.{is_index}
-use Rattle.converter_read.specs.declared.plan.ConverterPlan.{ConverterPlan}
-use Rattle.converter_read.specs.declared.plan.PlanEntry.TheVariants.{Stock, Boxed}
-use Rattle.converter_read.specs.declared.plan.ConverterKind.{ConverterKind}
-use Rattle.converter_read.specs.declared.plan.ConverterKind.TheVariants.{Element, Structure, AttributeElement, Attribute, Highlight, Leaf, Custom}
-use Rattle.converter_read.specs.PatternForm.{pattern_at}
-use Rattle.converter_read.specs.PriorityForm.{priority_field}
-use Rattle.converter_read.specs.ViewForm.{viewed, element_view_at, layer_view_at, attribute_view_at, highlight_view_at, leaf_at}
-use Rattle.converter_read.specs.ShapeForm.{shape_at}
+use Rattle.converter_definitions.specs.declared.plan.ConverterPlan.{ConverterPlan}
+use Rattle.converter_definitions.specs.declared.plan.PlanEntry.TheVariants.{Stock, Boxed}
+use Rattle.settings_definitions.specs.declared.converter_parts.ConverterKind.{ConverterKind}
+use Rattle.settings_definitions.specs.declared.converter_parts.ConverterKind.TheVariants.{Element, Structure, AttributeElement, Attribute, Highlight, Leaf, Custom}
+use Rattle.settings_definitions.specs.PatternForm.{pattern_at}
+use Rattle.settings_definitions.specs.PriorityForm.{priority_field}
+use Rattle.settings_definitions.specs.ViewForm.{viewed, element_view_at, layer_view_at, attribute_view_at, highlight_view_at, leaf_at}
+use Rattle.settings_definitions.specs.ShapeForm.{shape_at}
 
 -- a converter of the settings with its priority
 abbrev pub stock_plan : ℤ → StockConverter → ConverterPlan

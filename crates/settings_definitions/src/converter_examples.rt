@@ -6,9 +6,9 @@ ghost use Rattle.converter_definitions.specs.declared.kind.ShapeKind.TheVariants
 ghost use Rattle.converter_definitions.specs.declared.pattern.Pattern.TheVariants.{Text, From, Index};
 ghost use Rattle.converter_definitions.specs.declared.stock.StockConverter.TheVariants.{ElementToElement, ElementToStructure, AttributeToElement, AttributeToAttribute, MarkerToHighlight, MarkerToElement};
 ghost use Rattle.converter_definitions.specs.Form.{slot, text, element, none, more};
-ghost use Rattle.converter_read.specs.declared.plan.PlanEntry.TheVariants.{Boxed};
-ghost use Rattle.converter_read.specs.ConverterForm.{stock_plan};
-ghost use Rattle.converter_read.specs.Rows.{converter_in, converters_in, shape_in, pattern_in, priority_in, counted_in};
+ghost use Rattle.converter_definitions.specs.declared.plan.PlanEntry.TheVariants.{Boxed};
+ghost use Rattle.settings_definitions.specs.ConverterForm.{stock_plan};
+ghost use Rattle.settings_definitions.specs.ConverterRows.{converter_in, converters_in, shape_in, pattern_in, priority_in, counted_in};
 
 /// What elements become.
 pub fn elements()

@@ -18,9 +18,9 @@ use Rattle.converter_definitions.specs.declared.kind.ShapeKind.TheVariants.{Cont
 use Rattle.converter_definitions.specs.Form.{Form, slot, text, element, forms_of}
 use Rattle.converter_definitions.specs.Pattern.{Patterns}
 use Rattle.converter_definitions.specs.Shape.{may_hold, may_hold_slot, may_hold_text, form_count, inner_count, slot_count, inner_slots}
-use Rattle.converter_read.specs.declared.shapes.Before.{Before}
-use Rattle.converter_read.specs.declared.shapes.Head.{Head}
-use Rattle.converter_read.specs.PatternForm.{patterns_field}
+use Rattle.settings_definitions.specs.declared.converter_parts.Before.{Before}
+use Rattle.settings_definitions.specs.declared.converter_parts.Head.{Head}
+use Rattle.settings_definitions.specs.PatternForm.{patterns_field}
 
 -- what may stand in an element of this kind, or without a parent as the outermost node
 abbrev pub takes_slot : Option ShapeKind → Bool

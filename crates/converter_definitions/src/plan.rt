@@ -1,7 +1,7 @@
 //! What a list of converters says.
+use crate::stock::StockConverter;
 use ck_base::name::Name;
 use ck_base::priority::Priority;
-use converter_definitions::stock::StockConverter;
 
 /// A converter of the settings and how early it comes.
 #[derive(Debug, Drop)]
@@ -17,23 +17,4 @@ pub enum PlanEntry {
     Stock(StockConverter),
     /// One of the product, by its name; where it looks at the index of an element, with the name of these elements.
     Boxed { name: Name, index: Option<Name> },
-}
-
-/// The kinds of converters in the settings. (After the names of CKEditor 5's conversion helpers.)
-#[derive(Clone, Copy, Debug)]
-pub(crate) enum ConverterKind {
-    /// `elementToElement`
-    Element,
-    /// `elementToStructure`
-    Structure,
-    /// `attributeToElement`
-    AttributeElement,
-    /// `attributeToAttribute`
-    Attribute,
-    /// `markerToHighlight`
-    Highlight,
-    /// `markerToElement`
-    Leaf,
-    /// A converter of the product.
-    Custom,
 }

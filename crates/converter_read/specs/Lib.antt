@@ -1,8 +1,0 @@
-pub mod PatternForm
-pub mod PriorityForm
-pub mod ViewForm
-pub mod ShapeForm
-pub mod ConverterForm
-pub mod Rows
-pub mod PlanNames
-pub mod Indexed
