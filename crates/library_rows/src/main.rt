@@ -3,9 +3,12 @@
 //! It prints a line for each row that differs, and at the end how many rows there are and how many failed. It ends with 0 where none did.
 #![tactic(auto)]
 
+mod bindings;
 mod names;
+mod operations;
 mod report;
 mod samples;
+mod schemas;
 mod sinks;
 mod trees;
 mod views;
@@ -23,6 +26,9 @@ fn all_rows(runtime: &HostRuntime) -> Report<'_> {
     trees::rows(alloc, &mut report);
     views::rows(alloc, &mut report);
     wrapping::rows(alloc, &mut report);
+    operations::rows(alloc, &mut report);
+    schemas::rows(alloc, &mut report);
+    bindings::rows(alloc, &mut report);
     report
 }
 

@@ -44,7 +44,7 @@ fn on_sample(alloc: Global, row: impl Fn(Global, &mut Tree) -> bool) -> bool {
 }
 
 /// A tree of two paragraphs.
-fn sample(alloc: Global) -> Option<Tree> {
+pub fn sample(alloc: Global) -> Option<Tree> {
     let mut tree = Tree::new(alloc).ok()?;
     if brings(alloc, &mut tree, 2, "cd") && brings(alloc, &mut tree, 1, "ab") {
         Some(tree)
@@ -70,7 +70,7 @@ fn paragraph(alloc: Global, id: u16, text: &str) -> Option<Items> {
 }
 
 /// The characters of a text without attributes.
-fn characters(alloc: Global, text: &str) -> Option<Items> {
+pub fn characters(alloc: Global, text: &str) -> Option<Items> {
     Items::text(alloc, text, &Attrs::new(alloc)).ok()
 }
 

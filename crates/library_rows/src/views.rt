@@ -54,7 +54,7 @@ fn sample(alloc: Global) -> Option<View> {
 }
 
 /// A container of this name.
-fn container(alloc: Global, text: &str) -> Option<NodeKind>
+pub fn container(alloc: Global, text: &str) -> Option<NodeKind>
     ensures { IfSome result (λ kind. is_element kind ≡ true) }
 {
     match name(alloc, text) {
