@@ -42,7 +42,7 @@ fn of_root(alloc: Global, index: u32) -> Path
 }
 
 /// The position at an offset in the root.
-fn in_root(alloc: Global, offset: u32) -> Position
+pub fn in_root(alloc: Global, offset: u32) -> Position
     ensures { result ≡ offset ∷ [] }
 {
     match Position::new(alloc, of_root(alloc, offset)) {

@@ -1,6 +1,4 @@
 //! Schemas.
-ghost use Rattle.std.specs.Prelude.{◌<◌};
-
 use crate::report::Report;
 use crate::samples::{marked, name, path};
 use breach_definitions::spot::Spot;
@@ -226,7 +224,7 @@ fn breach(alloc: Global, schema: &Schema, spot: Spot) -> Option<(Rule, Path)> {
 }
 
 /// Whether a breach is that of an attribute of the first element.
-fn is_of_the_first(found: Option<(Rule, Path)>) -> bool {
+fn is_of_the_first(found: &Option<(Rule, Path)>) -> bool {
     match found {
         Some((Rule::Attribute { key, .. }, path)) => {
             key.as_str() == "id" && path.as_slice() == [0].as_slice()
@@ -237,7 +235,7 @@ fn is_of_the_first(found: Option<(Rule, Path)>) -> bool {
 
 fn finds_a_breach(alloc: Global, schema: &Schema) -> bool {
     match path(alloc, &[0]) {
-        Some(path) => is_of_the_first(breach(alloc, schema, Spot::Subtree(path))),
+        Some(path) => is_of_the_first(&breach(alloc, schema, Spot::Subtree(path))),
         None => false,
     }
 }

@@ -1,6 +1,4 @@
 //! Nodes that are wrapped and unwrapped.
-ghost use Rattle.std.specs.Prelude.{◌≤◌};
-
 use crate::report::Report;
 use crate::samples::{name, view_text};
 use ck_base::attributes::ViewAttrs;
