@@ -4,7 +4,6 @@ ghost use Rattle.std.specs.Prelude.{◌≡◌, ◌∷◌, []};
 use crate::report::Report;
 use crate::samples::{name, path};
 use crate::trees::{characters, sample};
-use ck_base::NoMemory;
 use ck_base::path::Path;
 use model_ops::apply::apply;
 use model_ops::cells::Cells;
@@ -17,7 +16,6 @@ use std::alloc::Global;
 
 /// The rows of operations.
 pub fn rows(alloc: Global, report: &mut Report<'_>) {
-    report.row("an insertion is taken back", insertion(alloc));
     report.row("a merge is taken back", merge(alloc));
     report.row(
         "a run goes into a cell and comes out of it",
@@ -29,7 +27,6 @@ pub fn rows(alloc: Global, report: &mut Report<'_>) {
     report.row("another old name is refused", other_old_name(alloc));
     report.row("elements apart are refused", elements_apart(alloc));
     report.row("a cell that isn't there is refused", no_cell(alloc));
-    report.row("cells are copied", copies_cells(alloc));
 }
 
 /// The path of an element of the root.
@@ -96,39 +93,16 @@ fn is_taken_back(alloc: Global, operation: &Operation, back: &Operation) -> bool
     }
 }
 
-/// Whether an operation's reversal takes it back.
-fn takes_back(alloc: Global, operation: Operation, back: Result<Operation, NoMemory>) -> bool {
-    match back {
-        Ok(back) => is_taken_back(alloc, &operation, &back),
-        Err(_) => false,
-    }
-}
-
-fn insertion(alloc: Global) -> bool {
-    match characters(alloc, "x") {
-        Some(items) => {
-            if items.len() > 9 {
-                return false;
-            }
-            let operation = Operation::Insert {
-                at: inside(alloc, 0, 1),
-                items,
-            };
-            let back = reverse(alloc, &operation, 0);
-            takes_back(alloc, operation, back)
-        }
-        None => false,
-    }
-}
-
 fn merge(alloc: Global) -> bool {
     let operation = Operation::Merge {
         right: of_root(alloc, 1),
         target: inside(alloc, 0, 2),
         cell: 0,
     };
-    let back = reverse(alloc, &operation, 1);
-    takes_back(alloc, operation, back)
+    match reverse(alloc, &operation, 1) {
+        Ok(back) => is_taken_back(alloc, &operation, &back),
+        Err(_) => false,
+    }
 }
 
 fn into_a_cell(alloc: Global) -> bool {
@@ -137,8 +111,10 @@ fn into_a_cell(alloc: Global) -> bool {
         count: 1,
         to: Place::Cell(0),
     };
-    let back = reverse(alloc, &operation, 1);
-    takes_back(alloc, operation, back)
+    match reverse(alloc, &operation, 1) {
+        Ok(back) => is_taken_back(alloc, &operation, &back),
+        Err(_) => false,
+    }
 }
 
 /// The place of a fault in their order, which is 9 for want of memory.
@@ -234,37 +210,4 @@ fn no_cell(alloc: Global) -> bool {
         source: Source::Cell(7),
     };
     refusal(alloc, operation) == 6
-}
-
-/// Takes a run of the sample into a cell.
-fn filled(alloc: Global, tree: &mut Tree) -> Option<Cells> {
-    let mut cells = Cells::new(alloc);
-    let operation = Operation::Move {
-        from: Place::Tree(inside(alloc, 0, 0)),
-        count: 2,
-        to: Place::Cell(0),
-    };
-    if apply(tree, &mut cells, &operation).is_ok() {
-        Some(cells)
-    } else {
-        None
-    }
-}
-
-/// Whether a copy of the cells holds two items in the first.
-fn are_copied(cells: &Cells) -> bool {
-    match cells.copy() {
-        Ok(copied) => copied.holds_count(0, 2),
-        Err(_) => false,
-    }
-}
-
-fn copies_cells(alloc: Global) -> bool {
-    match sample(alloc) {
-        Some(mut tree) => match filled(alloc, &mut tree) {
-            Some(cells) => are_copied(&cells),
-            None => false,
-        },
-        None => false,
-    }
 }
