@@ -20,6 +20,7 @@ pub record Calls : Type 0 where
   pub writes : ℕ
   pub writes_then : ℕ
 
+-- what is told, with these in the order of the fields
 abbrev pub calls : Option (List ℕ → Option (List ℕ)) → ℕ → ℕ → Option (List ℕ) → Option (List ℕ) → ℕ → ℕ → Calls
 calls held fetches fetches_then written written_then writes writes_then = record {
   held = held;

@@ -20,6 +20,7 @@ text_in (Some (Whole number)) = None
 text_in (Some (Truth truth)) = None
 text_in (Some (Text scalars)) = Some scalars
 
+-- whether an attribute is there and its value is `true`
 abbrev pub is_true : Option AttributeValue → Bool
 is_true None = false
 is_true (Some (Whole number)) = false
@@ -35,25 +36,30 @@ abbrev pub mention_form : List ℕ → Form ViewAttributes
 mention_form user = element Container (codes "span") ((codes "class", codes "mention") ∷ (codes "data-user", user) ∷ [])
     (more (element Ui (codes "b") [] (more (text (64 ∷ user)) none)) none)
 
+-- a mention with a user consumes its insertion and the user; one without is left to other converters
 abbrev pub mention_of : Option (List ℕ) → Option (List Key × Part)
 mention_of None = None
 mention_of (Some user) = Some (Insert ∷ Attribute (codes "user") ∷ [], Shape (mention_form user))
 
+-- what the converter gives each element: only one named `mention` is its own
 abbrev pub mention : Facts → Option (List Key × Part)
 mention = of_elements (codes "mention") (λ facts. mention_of (text_in (value_of (codes "user") facts.attributes)))
 
--- `checkbox` shows a box that is checked or not: <input type="checkbox"/>, with checked="checked" where `checked` is true
+-- `checkbox` consumes an element's insertion, and the attribute `checked` where it has one
 abbrev pub checkbox_keys : Option AttributeValue → List Key
 checkbox_keys None = Insert ∷ []
 checkbox_keys (Some value) = Insert ∷ Attribute (codes "checked") ∷ []
 
+-- the attributes of the box, in the order of their names: `type`, and before it `checked` where it is checked
 abbrev pub checkbox_attributes : Bool → ViewAttributes
 checkbox_attributes false = (codes "type", codes "checkbox") ∷ []
 checkbox_attributes true = (codes "checked", codes "checked") ∷ (codes "type", codes "checkbox") ∷ []
 
+-- it shows a box that is checked or not: <input type="checkbox"/>, with checked="checked" where `checked` is true
 abbrev pub checkbox_of : Option AttributeValue → Option (List Key × Part)
 checkbox_of checked = Some (checkbox_keys checked, Shape (element Empty (codes "input") (checkbox_attributes (is_true checked)) none))
 
+-- what the converter gives each element: only one named `checkbox` is its own
 abbrev pub checkbox : Facts → Option (List Key × Part)
 checkbox = of_elements (codes "checkbox") (λ facts. checkbox_of (value_of (codes "checked") facts.attributes))
 
@@ -62,5 +68,6 @@ abbrev pub anchor_of : Option (List ℕ) → Option (List Key × Part)
 anchor_of None = None
 anchor_of (Some anchor) = Some (Attribute (codes "anchor") ∷ [], Extra ((codes "id", codes "anchor-" ++ anchor) ∷ []))
 
+-- what the converter gives each element: only one named `heading` is its own
 abbrev pub heading_anchor : Facts → Option (List Key × Part)
 heading_anchor = of_elements (codes "heading") (λ facts. anchor_of (text_in (value_of (codes "anchor") facts.attributes)))

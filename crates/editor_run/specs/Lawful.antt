@@ -25,11 +25,14 @@ anchor_of-lawful : (anchor : Option (List ℕ)) → IsLawful (anchor_of anchor)
 anchor_of-lawful None = tt
 anchor_of-lawful (Some anchor) = refl
 
+-- `mention` keeps the law
 pub mention_lawful : (facts : Facts) → IsLawful (mention facts)
 mention_lawful facts = if_lawful (bytes_eq facts.name (codes "mention")) _ (mention_of-lawful (text_in (value_of (codes "user") facts.attributes)))
 
+-- `checkbox` keeps the law
 pub checkbox_lawful : (facts : Facts) → IsLawful (checkbox facts)
 checkbox_lawful facts = if_lawful (bytes_eq facts.name (codes "checkbox")) _ (checkbox_of-lawful (value_of (codes "checked") facts.attributes))
 
+-- `headingAnchor` keeps the law
 pub heading_anchor_lawful : (facts : Facts) → IsLawful (heading_anchor facts)
 heading_anchor_lawful facts = if_lawful (bytes_eq facts.name (codes "heading")) _ (anchor_of-lawful (text_in (value_of (codes "anchor") facts.attributes)))

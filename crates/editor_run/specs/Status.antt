@@ -3,6 +3,7 @@ use Rattle.std.specs.Prelude.{ℕ, Bool, nat_le}
 use Rattle.editor_run.specs.declared.run.Status.{Status}
 use Rattle.editor_run.specs.declared.run.Status.TheVariants.{Finished, Refused, BadWords, NoMemory, NotFetched, NotWritten, TooLarge}
 
+-- the number of each status, with which the process ends
 abbrev pub status_code : Status → ℕ
 status_code Finished = 0
 status_code Refused = 1

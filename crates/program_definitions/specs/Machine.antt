@@ -67,10 +67,11 @@ change edits machine = unless_spent machine (edited machine (Ok edits))
 abbrev pub select_view : List ℕ → List ℕ → Machine → Result Machine Refusal
 select_view anchor focus machine = unless_spent machine (edited machine (selecting machine.config.conversion machine.document anchor focus))
 
--- each answer's line begins with the number of the script's line and a blank, and ends with a line feed
+-- an accepted line is answered by `ok`; each line of an answer begins with the number of the script's line and a blank, and ends with a line feed
 unfoldable pub accepted_line : ℕ → List ℕ
 accepted_line number = decimal number ++ codes " ok\n"
 
+-- a refused line is answered by the refusal's text behind `refused`
 unfoldable pub refused_line : ℕ → Refusal → List ℕ
 refused_line number refusal = decimal number ++ (codes " refused " ++ (refusal_text refusal ++ codes "\n"))
 
@@ -79,10 +80,11 @@ unfoldable pub both_lines : ℕ → List ℕ → List ℕ → List ℕ
 both_lines number model view = decimal number ++ (codes " model " ++ (model
     ++ (codes "\n" ++ (decimal number ++ (codes " view " ++ (view ++ codes "\n"))))))
 
--- where the selection stands in the model, and where it is seen
+-- the ends of the selection as positions of the model
 abbrev pub selected_ends : Document → Ends
 selected_ends document = record { start = document.selection.range.start; end = document.selection.range.end }
 
+-- the same ends as places of the view
 abbrev pub seen_ends : Conversion → Document → Ends
 seen_ends conversion document =
     record { start = seen conversion document document.selection.range.start; end = seen conversion document document.selection.range.end }

@@ -33,17 +33,19 @@ usage = codes "usage: ckcore run SETTINGS " ++ codes "SCRIPT | check SETTINGS\n"
 unfoldable pub accepted_settings : List ℕ
 accepted_settings = codes "settings ok\n"
 
--- what is written where the settings are refused, or the document that they start with
+-- what is written where the settings are refused
 unfoldable pub refused_settings : SettingsFault → List ℕ
 refused_settings fault = codes "settings refused " ++ (settings_text fault ++ codes "\n")
 
+-- what is written where the document that the settings start with is refused
 unfoldable pub refused_start : Refusal → List ℕ
 refused_start refusal = codes "settings refused " ++ (codes "BadStart " ++ (refusal_text refusal ++ codes "\n"))
 
--- the most bytes that a settings file and a script may have
+-- the most bytes that a settings file may have
 abbrev pub most_settings_bytes : ℕ
 most_settings_bytes = 1048576
 
+-- the most bytes that a script may have
 abbrev pub most_script_bytes : ℕ
 most_script_bytes = 67108864
 
@@ -87,6 +89,7 @@ finished held task (Err outcome) = outcome
 abbrev pub task_outcome : Givings → (List ℕ → Option (List ℕ)) → Task → Outcome
 task_outcome givings held task = finished held task (machine_from givings (held (settings_name task)))
 
+-- words of no form are answered by the usage line and 2, others by what their task gives
 abbrev pub outcome_of : Givings → (List ℕ → Option (List ℕ)) → Option Task → Outcome
 outcome_of givings held None = record { bytes = usage; status = 2 }
 outcome_of givings held (Some task) = task_outcome givings held task

@@ -17,8 +17,10 @@ one_paragraph = record {
   next_id = 2;
 }
 
+-- the sample's schema, and the sample's converters
 abbrev pub config : Config
 config = record { terms = record { rules = schema.sample }; conversion = converters.sample }
 
+-- the machine that has just opened that paragraph
 abbrev pub machine : Machine
 machine = beginning config one_paragraph

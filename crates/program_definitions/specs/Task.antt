@@ -12,10 +12,11 @@ abbrev pub is_file_name : List ℕ → Bool
 is_file_name [] = false
 is_file_name (byte ∷ rest) = not (byte == 45)
 
--- a verb with one name, and with two
+-- a verb with one name is the task of checking, where it is `check` and the name can name a file
 abbrev pub check_task : List ℕ → List ℕ → Option Task
 check_task verb settings = if bytes_eq verb (codes "check") && is_file_name settings then Some (check settings) else None
 
+-- a verb with two names is the task of running, where it is `run` and both can name files
 abbrev pub run_task : List ℕ → List ℕ → List ℕ → Option Task
 run_task verb settings script =
     if bytes_eq verb (codes "run") && is_file_name settings && is_file_name script then Some (run settings script) else None
