@@ -22,18 +22,23 @@ use std::alloc::Global;
 fn subject_at(alloc: Global, path: &FieldPath, value: &Value) -> Result<Subject, FormFault>
     ensures { Reads (λ subject. subject) result (subject_at path.now (view value.now)) }
 {
-    match (value.get("item"), value.get("extend")) {
-        (Some(found), None) => {
+    match value.get("item") {
+        Some(found) => {
+            if value.get("extend").is_some() {
+                return Err(bad_field(path, "item"));
+            }
             let place = path.field("item")?;
             let name = name_at(alloc, &place, found)?;
             Ok(Subject::Item(name))
         }
-        (None, Some(found)) => {
+        None => {
+            let Some(found) = value.get("extend") else {
+                return Err(bad_field(path, "item"));
+            };
             let place = path.field("extend")?;
             let name = name_at(alloc, &place, found)?;
             Ok(Subject::Extend(name))
         }
-        _ => Err(bad_field(path, "item")),
     }
 }
 

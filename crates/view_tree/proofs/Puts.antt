@@ -4,27 +4,12 @@ use Rattle.std.specs.Prelude.{unwrap_or, slice_get, slice_set, option_and_then}
 use Rattle.std.specs.Option.{option_map_or}
 use Rattle.view_definitions.specs.Node.{ViewNode, ViewNodes, text, element, none, more, list_of, nodes_of, children_of}
 use Rattle.view_definitions.specs.Place.{list_at, at_index, with_inner, put_at}
+use Rattle.view_definitions.proofs.Counting.{at_index-twice}
 use Rattle.view_tree.proofs.Listed.{listed}
 
 nodes_of-list_of : (nodes : ViewNodes) → nodes_of (list_of nodes) ≡ nodes
 nodes_of-list_of none = refl
 nodes_of-list_of (more node nodes) = ap (more node) (nodes_of-list_of nodes)
-
-at_index-suc : (index : ℕ) (change : ViewNode → ViewNode) (node : ViewNode) (nodes : List ViewNode) → at_index (suc index) change (node ∷ nodes) ≡ node ∷ at_index index change nodes
-at_index-suc index change node nodes =
-    elim (slice_get nodes index) as (λ o. option_map_or (λ n. node ∷ slice_set nodes index (change n)) o (node ∷ nodes) ≡ node ∷ option_map_or (λ n. slice_set nodes index (change n)) o nodes) [
-      | None ↦ refl
-      | Some n ↦ refl
-    ]
-
-at_index-twice : (index : ℕ) (change again : ViewNode → ViewNode) (nodes : List ViewNode) → at_index index again (at_index index change nodes) ≡ at_index index (λ node. again (change node)) nodes
-at_index-twice index change again [] = refl
-at_index-twice zero change again (node ∷ nodes) = refl
-at_index-twice (suc index) change again (node ∷ nodes) =
-    ap (at_index (suc index) again) (at_index-suc index change node nodes)
-    ∙ at_index-suc index again node (at_index index change nodes)
-    ∙ ap (λ list. node ∷ list) (at_index-twice index change again nodes)
-    ∙ sym (at_index-suc index (λ n. again (change n)) node nodes)
 
 with_inner-twice : (change again : List ViewNode → List ViewNode) (node : ViewNode) → with_inner again (with_inner change node) ≡ with_inner (λ nodes. again (change nodes)) node
 with_inner-twice change again (text scalars) = refl

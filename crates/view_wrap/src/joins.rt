@@ -102,8 +102,11 @@ fn text_of_both(alloc: Global, text: &ViewText, more: &ViewText) -> Result<ViewT
 fn are_one(node: &Detached, other: &Detached) -> Result<bool, NoMemory>
     ensures { IfOk result (λ one. one ≡ both_layers (node_layer node.now) (node_layer other.now)) }
 {
-    match (node.layer()?, other.layer()?) {
-        (Some(layer), Some(other)) => Ok(layer.same(&other)),
-        _ => Ok(false),
-    }
+    let Some(layer) = node.layer()? else {
+        return Ok(false);
+    };
+    let Some(other) = other.layer()? else {
+        return Ok(false);
+    };
+    Ok(layer.same(&other))
 }
