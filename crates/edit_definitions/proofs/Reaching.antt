@@ -33,7 +33,7 @@ use Rattle.edit_definitions.specs.Places.{is_range, is_element}
 use Rattle.edit_definitions.specs.Runs.{Run, runs_of, items_of_range, value_told, give_in}
 use Rattle.edit_definitions.specs.Planned.{◌>>=◌, check, parts_of, given_to}
 use Rattle.edit_definitions.specs.Performed.{as_step, performed}
-use Rattle.edit_definitions.specs.Given.{attribute_edit, is_of, is_reached, IsGiven, HasGiven}
+use Rattle.edit_definitions.specs.Given.{attribute_edit, is_of, is_reached, IsGiven, HasGiven, EachIsGiven}
 use Rattle.edit_definitions.proofs.Reached.{found, element-there}
 use Rattle.edit_definitions.proofs.Attributed.{Spot, spot_of, AreRunsOf, runs-found, spots_of, spots-changed, change_at}
 use Rattle.edit_definitions.proofs.Longest.{told-exactly}
@@ -303,11 +303,9 @@ parts-reach edit items (OfElement place) parts path item e there =
         ∙ sym ((λ t. pointwise nat_eq (whole t) (path-joined path other t)) ∙ joined (parent_of place) (parent_of path) (offset_of place) (offset_of path))
 
 -- each item that an edit reaches has the new value, and every other is as it was
-pub value_given : (registered : List ℕ → Bool) (edit : ℕ) (target : Target) (key : List ℕ) (new : Option AttributeValue) (state made : State) (path : List ℕ)
-    (item : Item) → IsKeyed state
-    → performed registered edit (attribute_edit target key new) state ≡ Ok made → item_at path state.document.items ≡ Some item
-    → HasGiven (is_reached state.document.items target path) key new (attributes_of item) made.document.items path
-value_given registered edit target key new state made path item keyed e there =
+pub value_given : (registered : List ℕ → Bool) (edit : ℕ) (target : Target) (key : List ℕ) (new : Option AttributeValue) (state made : State)
+    → IsKeyed state → performed registered edit (attribute_edit target key new) state ≡ Ok made → EachIsGiven target key new state made
+value_given registered edit target key new state made keyed e = λ path item there.
     let items = state.document.items in
     let p = planned_edit registered edit target key new state made e in
     let spots = spots_of key new items p.parts in

@@ -41,6 +41,12 @@ pub record HasGiven (reached : Bool) (key : List ℕ) (new : Option AttributeVal
   pub there : item_at path items ≡ Some item
   pub given : IsGiven reached key new old (attributes_of item)
 
+-- each item that stands in the one document stands in the other with attributes that are so given
+abbrev pub EachIsGiven : Target → List ℕ → Option AttributeValue → State → State → Type 0
+EachIsGiven target key new state made =
+    (path : List ℕ) (item : Item) → item_at path state.document.items ≡ Some item
+    → HasGiven (is_reached state.document.items target path) key new (attributes_of item) made.document.items path
+
 abbrev mutual
   -- an item without its attributes, and without those of all that is in it
   pub item_without_attributes : Item → Item

@@ -18,7 +18,7 @@ ghost use Rattle.edit_definitions.specs.Applied.{AreApplied};
 ghost use Rattle.edit_definitions.specs.declared.edit.Target.{Target};
 ghost use Rattle.edit_definitions.specs.declared.edit.Target.TheVariants.{Range as InRange};
 ghost use Rattle.edit_definitions.specs.Places.{is_range};
-ghost use Rattle.edit_definitions.specs.Given.{attribute_edit, is_reached, HasGiven, without_attributes};
+ghost use Rattle.edit_definitions.specs.Given.{attribute_edit, is_reached, EachIsGiven, without_attributes};
 ghost use Rattle.edit_definitions.specs.Performed.{performed, all_performed, apart, document_made, edits_made};
 
 /// What edits make of a document, and which fault they give, doesn't hang on what is in the cells beside it.
@@ -65,9 +65,7 @@ pub fn attribute_edits_reach_the_outermost()
 /// character, id, name and place of an item, the markers, the selection with its overrides, the next id and the cells.
 pub fn attribute_edits_give_the_value()
     ensures value { (registered : List ℕ → Bool) (number : ℕ) (target : Target) (key : List ℕ) (new : Option AttributeValue) (state made : State)
-        (path : List ℕ) (item : Item)
-        → IsKeyed state → performed registered number (attribute_edit target key new) state ≡ Ok made → item_at path state.document.items ≡ Some item
-        → HasGiven (is_reached state.document.items target path) key new (attributes_of item) made.document.items path }
+        → IsKeyed state → performed registered number (attribute_edit target key new) state ≡ Ok made → EachIsGiven target key new state made }
     ensures rest { (registered : List ℕ → Bool) (number : ℕ) (target : Target) (key : List ℕ) (new : Option AttributeValue) (state made : State)
         → IsSound state → performed registered number (attribute_edit target key new) state ≡ Ok made → without_attributes made ≡ without_attributes state }
 {}

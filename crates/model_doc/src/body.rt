@@ -158,9 +158,9 @@ impl Body {
         match self.after(&operation) {
             Ok(made) => match records.push(self.put(made, operation)) {
                 Ok(()) => Ok(()),
-                Err(_) => Err(OpFault::NoMemory),
+                Err(unkept) => Err(refused(OpFault::NoMemory, unkept)),
             },
-            Err(fault) => Err(fault),
+            Err(fault) => Err(refused(fault, operation)),
         }
     }
 
@@ -287,5 +287,12 @@ fn want_of_memory(fault: OpFault) -> NoMemory
     }
 }
 
-/// Drops an operation, which has many cases, in a call of its own.
-fn discard(_operation: Operation) {}
+/// A refusal, once what it leaves unmade is let go.
+pub(crate) fn refused<T: Drop>(fault: OpFault, _unmade: T) -> OpFault
+    ensures { result ≡ fault }
+{
+    fault
+}
+
+/// Lets a value go in a call of its own.
+fn discard<T: Drop>(_value: T) {}

@@ -13,7 +13,7 @@ ghost use Rattle.model_doc.specs.Records.{done_on, records_of, Leads, IsAgain};
 ghost use Rattle.model_doc.specs.Conditions.{AreWelcome};
 
 use crate::batch::Batch;
-use crate::body::Body;
+use crate::body::{Body, refused};
 use crate::record::Record;
 use ck_base::NoMemory;
 use ck_base::name::Name;
@@ -117,7 +117,7 @@ impl Document {
     {
         match self.body.after(&operation) {
             Ok(made) => Ok(self.body.put(made, operation)),
-            Err(fault) => Err(fault),
+            Err(fault) => Err(refused(fault, operation)),
         }
     }
 
@@ -141,17 +141,18 @@ impl Document {
         ensures kept { self.new.kept ≡ self.old.kept }
     {
         let Ok(body) = self.body.copy() else {
-            return Err(OpFault::NoMemory);
+            return Err(refused(OpFault::NoMemory, operations));
         };
-        let (body, records) = match body.after_all(operations) {
-            Ok(made) => made,
-            Err(fault) => return Err(fault),
-        };
-        let Ok(()) = batch.extend(records) else {
-            return Err(OpFault::NoMemory);
-        };
-        self.body = body;
-        Ok(())
+        match body.after_all(operations) {
+            Ok((made, records)) => match batch.extend(records) {
+                Ok(()) => {
+                    self.body = made;
+                    Ok(())
+                }
+                Err(_) => Err(refused(OpFault::NoMemory, made)),
+            },
+            Err(fault) => Err(fault),
+        }
     }
 
     /// Takes the last operation back that was not taken back yet: items, markers, selection and next id are those from before it, and each
