@@ -60,12 +60,14 @@ fn inside(alloc: Global, index: u32, offset: u32) -> Position
     }
 }
 
+/// How many items the element of the root with this index has.
+fn count(alloc: Global, tree: &Tree, index: u32) -> Option<u32> {
+    tree.child_count(&of_root(alloc, index))
+}
+
 /// How many items the two elements of the root have.
 fn counts(alloc: Global, tree: &Tree) -> (Option<u32>, Option<u32>) {
-    (
-        tree.child_count(&of_root(alloc, 0)),
-        tree.child_count(&of_root(alloc, 1)),
-    )
+    (count(alloc, tree, 0), count(alloc, tree, 1))
 }
 
 /// Whether an operation changes the counts, and the other one takes that back.
