@@ -60,28 +60,13 @@ fn inside(alloc: Global, index: u32, offset: u32) -> Position
     }
 }
 
-/// How many items the element of the root with this index has.
-fn count(alloc: Global, tree: &Tree, index: u32) -> Option<u32> {
-    tree.child_count(&of_root(alloc, index))
-}
-
-/// How many items the two elements of the root have.
-fn counts(alloc: Global, tree: &Tree) -> (Option<u32>, Option<u32>) {
-    (count(alloc, tree, 0), count(alloc, tree, 1))
-}
-
-/// Whether an operation changes the counts, and the other one takes that back.
-fn returns(
-    alloc: Global,
-    tree: &mut Tree,
-    cells: &mut Cells,
-    both: (&Operation, &Operation),
-) -> bool {
-    let before = counts(alloc, tree);
-    apply(tree, cells, both.0).is_ok()
-        && counts(alloc, tree) != before
-        && apply(tree, cells, both.1).is_ok()
-        && counts(alloc, tree) == before
+/// Whether an operation changes how many items there are, and the other one takes that back.
+fn returns(tree: &mut Tree, cells: &mut Cells, operation: &Operation, back: &Operation) -> bool {
+    let before = tree.item_count();
+    apply(tree, cells, operation).is_ok()
+        && tree.item_count() != before
+        && apply(tree, cells, back).is_ok()
+        && tree.item_count() == before
 }
 
 /// Whether the other operation takes back what the first does to the sample.
@@ -89,7 +74,7 @@ fn is_taken_back(alloc: Global, operation: &Operation, back: &Operation) -> bool
     match sample(alloc) {
         Some(mut tree) => {
             let mut cells = Cells::new(alloc);
-            returns(alloc, &mut tree, &mut cells, (operation, back))
+            returns(&mut tree, &mut cells, operation, back)
         }
         None => false,
     }
