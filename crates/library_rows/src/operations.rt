@@ -60,13 +60,26 @@ fn inside(alloc: Global, index: u32, offset: u32) -> Position
     }
 }
 
+/// Lets a refusal go: no.
+fn is_let_go(_fault: OpFault) -> bool {
+    false
+}
+
+/// Does an operation, and answers whether it was done.
+fn does(tree: &mut Tree, cells: &mut Cells, operation: &Operation) -> bool {
+    match apply(tree, cells, operation) {
+        Ok(()) => true,
+        Err(fault) => is_let_go(fault),
+    }
+}
+
 /// Whether an operation changes how many items there are, and the other one takes that back.
 fn returns(tree: &mut Tree, cells: &mut Cells, operation: &Operation, back: &Operation) -> bool {
     let before = tree.item_count();
-    apply(tree, cells, operation).is_ok()
-        && tree.item_count() != before
-        && apply(tree, cells, back).is_ok()
-        && tree.item_count() == before
+    if !does(tree, cells, operation) || tree.item_count() == before {
+        return false;
+    }
+    does(tree, cells, back) && tree.item_count() == before
 }
 
 /// Whether the other operation takes back what the first does to the sample.
