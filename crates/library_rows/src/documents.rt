@@ -21,7 +21,9 @@ pub fn rows(alloc: Global, report: &mut Report<'_>) {
 }
 
 /// What a row answers on a document without items.
-fn on_empty(alloc: Global, row: impl Fn(Global, &mut Document) -> bool) -> bool {
+fn on_empty<Row: Fn(Global, &mut Document) -> bool>(alloc: Global, row: Row) -> bool
+    requires { Row.IsAlwaysCallable row }
+{
     match Document::new(alloc, 1) {
         Ok(mut document) => row(alloc, &mut document),
         Err(_) => false,

@@ -60,26 +60,26 @@ fn inside(alloc: Global, index: u32, offset: u32) -> Position
     }
 }
 
-/// How many items the two elements of the root have.
-fn counts(alloc: Global, tree: &Tree) -> (Option<u32>, Option<u32>) {
-    (
-        tree.child_count(&of_root(alloc, 0)),
-        tree.child_count(&of_root(alloc, 1)),
-    )
+/// Lets a refusal go: no.
+fn is_let_go(_fault: OpFault) -> bool {
+    false
 }
 
-/// Whether an operation changes the counts, and the other one takes that back.
-fn returns(
-    alloc: Global,
-    tree: &mut Tree,
-    cells: &mut Cells,
-    both: (&Operation, &Operation),
-) -> bool {
-    let before = counts(alloc, tree);
-    apply(tree, cells, both.0).is_ok()
-        && counts(alloc, tree) != before
-        && apply(tree, cells, both.1).is_ok()
-        && counts(alloc, tree) == before
+/// Does an operation, and answers whether it was done.
+fn does(tree: &mut Tree, cells: &mut Cells, operation: &Operation) -> bool {
+    match apply(tree, cells, operation) {
+        Ok(()) => true,
+        Err(fault) => is_let_go(fault),
+    }
+}
+
+/// Whether an operation changes how many items there are, and the other one takes that back.
+fn returns(tree: &mut Tree, cells: &mut Cells, operation: &Operation, back: &Operation) -> bool {
+    let before = tree.item_count();
+    if !does(tree, cells, operation) || tree.item_count() == before {
+        return false;
+    }
+    does(tree, cells, back) && tree.item_count() == before
 }
 
 /// Whether the other operation takes back what the first does to the sample.
@@ -87,7 +87,7 @@ fn is_taken_back(alloc: Global, operation: &Operation, back: &Operation) -> bool
     match sample(alloc) {
         Some(mut tree) => {
             let mut cells = Cells::new(alloc);
-            returns(alloc, &mut tree, &mut cells, (operation, back))
+            returns(&mut tree, &mut cells, operation, back)
         }
         None => false,
     }

@@ -96,7 +96,9 @@ fn compiled(alloc: Global, entries: Vec<Entry>) -> Option<Schema> {
 }
 
 /// What a row answers on the schema of a paragraph and an image.
-fn on_sample(alloc: Global, row: impl Fn(Global, &Schema) -> bool) -> bool {
+fn on_sample<Row: Fn(Global, &Schema) -> bool>(alloc: Global, row: Row) -> bool
+    requires { Row.IsAlwaysCallable row }
+{
     match entries(alloc) {
         Some(entries) => match compiled(alloc, entries) {
             Some(schema) => row(alloc, &schema),

@@ -36,7 +36,9 @@ pub fn rows(alloc: Global, report: &mut Report<'_>) {
 }
 
 /// What a row answers on a tree of two paragraphs, `ab` with the id 1 and `cd` with the id 2.
-fn on_sample(alloc: Global, row: impl Fn(Global, &mut Tree) -> bool) -> bool {
+fn on_sample<Row: Fn(Global, &mut Tree) -> bool>(alloc: Global, row: Row) -> bool
+    requires { Row.IsAlwaysCallable row }
+{
     match sample(alloc) {
         Some(mut tree) => row(alloc, &mut tree),
         None => false,

@@ -32,7 +32,9 @@ pub fn rows(alloc: Global, report: &mut Report<'_>) {
 }
 
 /// What a row answers on a view of an `li` with the number 0, in it a `span` without a number, and in that the text `ab`.
-fn on_sample(alloc: Global, row: impl Fn(Global, &mut View) -> bool) -> bool {
+fn on_sample<Row: Fn(Global, &mut View) -> bool>(alloc: Global, row: Row) -> bool
+    requires { Row.IsAlwaysCallable row }
+{
     match sample(alloc) {
         Some(mut view) => row(alloc, &mut view),
         None => false,
@@ -204,6 +206,9 @@ fn cuts_and_joins(alloc: Global) -> bool {
 
 /// Whether a list of two is cut before the second, and joined again.
 fn is_cut_and_joined(mut list: Children) -> bool {
+    if list.is_empty() {
+        return false;
+    }
     match list.split_off(1) {
         Ok(back) => {
             list.len() == 1
