@@ -1,0 +1,5 @@
+pub mod Places
+pub mod Wanted
+pub mod Selecting
+pub mod Fixes
+pub mod Settling
