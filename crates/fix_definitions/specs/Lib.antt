@@ -3,3 +3,5 @@ pub mod Wanted
 pub mod Selecting
 pub mod Fixes
 pub mod Settling
+pub mod Indents
+pub mod Sample

@@ -4,5 +4,6 @@
 //! law or a worked example, which its clauses state.
 #![tactic(auto)]
 
+pub mod examples;
 pub mod fault;
 pub mod stock;
