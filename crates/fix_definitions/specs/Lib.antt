@@ -5,3 +5,4 @@ pub mod Fixes
 pub mod Settling
 pub mod Indents
 pub mod Sample
+pub mod AtRest

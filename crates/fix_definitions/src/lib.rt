@@ -6,4 +6,5 @@
 
 pub mod examples;
 pub mod fault;
+pub mod laws;
 pub mod stock;
