@@ -3,6 +3,7 @@ pub mod Wanted
 pub mod Selecting
 pub mod Fixes
 pub mod Settling
+pub mod Rounds
 pub mod Indents
 pub mod Sample
 pub mod AtRest

@@ -1,5 +1,5 @@
 //! What holds of every document and all fixers: each function is a law, which its clauses state.
-ghost use Rattle.std.specs.Prelude.{◌≡◌, ◌↔◌, IsTrue, List, [], All, AllPairs, Contains};
+ghost use Rattle.std.specs.Prelude.{◌≡◌, ◌↔◌, IsTrue, ℕ, Bool, List, [], Ok, All, AllPairs, Contains};
 ghost use Rattle.item_definitions.specs.Item.{Item};
 ghost use Rattle.document_definitions.specs.Markers.{Markers};
 ghost use Rattle.document_definitions.specs.Selection.{Selection};
@@ -8,7 +8,10 @@ ghost use Rattle.fix_definitions.specs.declared.stock.StockFixer.{StockFixer};
 ghost use Rattle.fix_definitions.specs.Places.{Place, places};
 ghost use Rattle.fix_definitions.specs.Wanted.{wanted};
 ghost use Rattle.fix_definitions.specs.Selecting.{selection_wanted};
-ghost use Rattle.fix_definitions.specs.Fixes.{fixes};
+ghost use Rattle.fix_definitions.specs.Fixes.{Fixing, fixes};
+ghost use Rattle.document_definitions.specs.Document.{State};
+ghost use Rattle.fix_definitions.specs.Settling.{settle, IsSettled};
+ghost use Rattle.fix_definitions.specs.Rounds.{ComesToRest};
 ghost use Rattle.fix_definitions.specs.AtRest.{IsPlaceOf};
 ghost use Rattle.item_definitions.specs.Position.{is_before};
 
@@ -22,4 +25,13 @@ pub fn places_are_those_of_the_document()
 pub fn plans_are_empty_where_nothing_is_wanted()
     ensures { (rules : Rules) (fixer : StockFixer) (items : List Item) (markers : Markers) (selection : Selection) → (fixes rules fixer items markers selection ≡ [])
         ↔ (All (λ place. wanted rules fixer place ≡ []) (places items) × (selection_wanted rules fixer items selection ≡ [])) }
+{}
+
+/// A document settles exactly where at most so many rounds lead to one of which no fixer wants anything. A settled one settles to itself, with the
+/// cells beside it, in any number of rounds.
+pub fn documents_settle_where_they_come_to_rest()
+    ensures settles { (registered : List ℕ → Bool) (fixings : List Fixing) (rounds : ℕ) (state made : State)
+        → (settle registered fixings rounds state ≡ Ok made) ↔ ComesToRest registered fixings rounds state made }
+    ensures stays { (registered : List ℕ → Bool) (fixings : List Fixing) (rounds : ℕ) (state : State) → IsSettled fixings state.document
+        → settle registered fixings rounds state ≡ Ok state }
 {}
