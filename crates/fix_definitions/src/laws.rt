@@ -1,5 +1,5 @@
 //! What holds of every document and all fixers: each function is a law, which its clauses state.
-ghost use Rattle.std.specs.Prelude.{◌≡◌, ◌↔◌, IsTrue, ℕ, Bool, List, [], Ok, All, AllPairs, Contains};
+ghost use Rattle.std.specs.Prelude.{◌≡◌, ◌≢◌, ◌↔◌, IsTrue, ℕ, Bool, List, [], Some, Ok, Err, All, AllPairs, Contains};
 ghost use Rattle.item_definitions.specs.Item.{Item};
 ghost use Rattle.document_definitions.specs.Markers.{Markers};
 ghost use Rattle.document_definitions.specs.Selection.{Selection};
@@ -9,9 +9,11 @@ ghost use Rattle.fix_definitions.specs.Places.{Place, places};
 ghost use Rattle.fix_definitions.specs.Wanted.{wanted};
 ghost use Rattle.fix_definitions.specs.Selecting.{selection_wanted};
 ghost use Rattle.fix_definitions.specs.Fixes.{Fixing, fixes};
-ghost use Rattle.document_definitions.specs.Document.{State};
-ghost use Rattle.fix_definitions.specs.Settling.{settle, IsSettled};
-ghost use Rattle.fix_definitions.specs.Rounds.{ComesToRest};
+ghost use Rattle.document_definitions.specs.Document.{Document, State};
+ghost use Rattle.fix_definitions.specs.Settling.{Plan, first_plan, settle, IsSettled};
+ghost use Rattle.fix_definitions.specs.Rounds.{IsFirstPlan, ComesToRest, StaysRestless, IsRefused};
+ghost use Rattle.ck_base.specs.declared.faults.EditFault.{EditFault};
+ghost use Rattle.fix_definitions.specs.declared.fault.SettleFault.TheVariants.{NotSettled, FixerRefused, NoMemory};
 ghost use Rattle.fix_definitions.specs.AtRest.{IsPlaceOf};
 ghost use Rattle.item_definitions.specs.Position.{is_before};
 
@@ -34,4 +36,20 @@ pub fn documents_settle_where_they_come_to_rest()
         → (settle registered fixings rounds state ≡ Ok made) ↔ ComesToRest registered fixings rounds state made }
     ensures stays { (registered : List ℕ → Bool) (fixings : List Fixing) (rounds : ℕ) (state : State) → IsSettled fixings state.document
         → settle registered fixings rounds state ≡ Ok state }
+{}
+
+/// The plan of a round is that of the first fixer that wants something.
+pub fn rounds_begin_with_the_first_fixer()
+    ensures { (fixings : List Fixing) (document : Document) (plan : Plan)
+        → (first_plan 1 fixings document ≡ Some plan) ↔ IsFirstPlan fixings document plan }
+{}
+
+/// A document doesn't settle exactly where a plan is still wanted after all rounds, or an edit of a plan can't be made; the fault tells the first
+/// fixer of which this holds.
+pub fn faults_tell_the_fixer()
+    ensures not_settled { (registered : List ℕ → Bool) (fixings : List Fixing) (rounds : ℕ) (state : State) (others fixer : ℕ)
+        → (settle registered fixings rounds state ≡ Err (NotSettled others fixer)) ↔ ((others ≡ rounds) × StaysRestless registered fixings rounds state fixer) }
+    ensures refused { (registered : List ℕ → Bool) (fixings : List Fixing) (rounds : ℕ) (state : State) (fixer : ℕ) (fault : EditFault)
+        → (settle registered fixings rounds state ≡ Err (FixerRefused fixer fault)) ↔ IsRefused registered fixings rounds state fixer fault }
+    ensures told { (registered : List ℕ → Bool) (fixings : List Fixing) (rounds : ℕ) (state : State) → settle registered fixings rounds state ≢ Err NoMemory }
 {}
