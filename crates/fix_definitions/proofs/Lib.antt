@@ -1,3 +1,5 @@
 pub mod Plans
 pub mod Found
 pub mod Rounds
+pub mod Neighbours
+pub mod Elements

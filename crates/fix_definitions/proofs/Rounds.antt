@@ -305,3 +305,38 @@ first_plans fixings document plan = (there, back)
     back h =
         ap (λ fs. first_plan 1 fs document) h.parts
         ∙ is_first document 1 h.before h.fixing h.behind plan (h.number ∙ omega arith) h.nothing h.edits h.some
+
+-- ---- the cells
+
+module _ (registered : List ℕ → Bool) (fixings : List Fixing) (rounds : ℕ) where
+  alike_in : (left : ℕ) (state other : State) → state.document ≡ other.document
+      → document_settled (settled_in registered fixings rounds left state) ≡ document_settled (settled_in registered fixings rounds left other)
+  alike_in zero state other e = ap (λ document. document_settled (at_end rounds state (first_plan 1 fixings document))) e ∙ go (first_plan 1 fixings other.document)
+    where
+      go : (plan : Option Plan) → document_settled (at_end rounds state plan) ≡ document_settled (at_end rounds other plan)
+      go None = ap Ok e
+      go (Some plan) = refl
+  alike_in (suc left) state other e =
+      ap (λ document. document_settled (round registered state (settled_in registered fixings rounds left) (first_plan 1 fixings document))) e
+      ∙ go (alike_in left) (first_plan 1 fixings other.document)
+    where
+      on : ((next another : State) → next.document ≡ another.document
+          → document_settled (settled_in registered fixings rounds left next) ≡ document_settled (settled_in registered fixings rounds left another))
+          → (fixer : ℕ) (result twin : Result State EditFault) → document_made result ≡ document_made twin
+          → document_settled (after_plan fixer result (settled_in registered fixings rounds left)) ≡ document_settled (after_plan fixer twin (settled_in registered fixings rounds left))
+      on rest fixer (Ok next) (Ok another) h = (let same : next.document ≡ another.document = cc in rest next another same)
+      on rest fixer (Ok next) (Err fault) h = absurd cc
+      on rest fixer (Err fault) (Ok next) h = absurd cc
+      on rest fixer (Err fault) (Err other) h = (let same : fault ≡ other = cc in ap (λ fault. Err (FixerRefused (fixer_number fixer) fault)) same)
+
+      go : ((next another : State) → next.document ≡ another.document
+          → document_settled (settled_in registered fixings rounds left next) ≡ document_settled (settled_in registered fixings rounds left another))
+          → (plan : Option Plan) → document_settled (round registered state (settled_in registered fixings rounds left) plan)
+          ≡ document_settled (round registered other (settled_in registered fixings rounds left) plan)
+      go rest None = ap Ok e
+      go rest (Some plan) =
+          on rest plan.fixer (all_performed registered 1 plan.edits state) (all_performed registered 1 plan.edits other) (alike registered 1 plan.edits state other e)
+
+pub reads_no_cells : (registered : List ℕ → Bool) (fixings : List Fixing) (rounds : ℕ) (state : State)
+    → document_settled (settle registered fixings rounds state) ≡ settled registered fixings rounds state.document
+reads_no_cells registered fixings rounds state = alike_in registered fixings rounds rounds state (apart state.document) refl

@@ -1,5 +1,6 @@
 -- What a document is like of which a stock fixer wants nothing: in the words of its items at their paths, of its schema and of its selection.
-use Rattle.std.specs.Prelude.{◌≡◌, ◌≢◌, ℕ, ◌+◌, List, [], ◌∷◌, ◌++◌, false, IsTrue, Contains, ◌⊎◌, Option, Some}
+use Rattle.std.specs.Prelude.{◌≡◌, ◌≢◌, ℕ, ◌+◌, List, [], ◌∷◌, ◌++◌, false, IsTrue, ◌⊎◌, Option, Some}
+use Rattle.std.specs.List.{Any}
 use Rattle.item_definitions.specs.Item.{Item, attributes_of}
 use Rattle.item_definitions.specs.Children.{item_at}
 use Rattle.item_definitions.specs.Position.{Range, IsIn, behind}
@@ -46,7 +47,7 @@ NoneIsEmpty name items = (path : List ℕ) (item : Item) → item_at path items 
 
 -- some child of an element is an element of this name
 abbrev pub HasChild : List ℕ → Item → Type 0
-HasChild name item = (child : Item) × Contains (children_in item) child × IsTrue (is_named name child)
+HasChild name item = Any (λ child. IsTrue (is_named name child)) (children_in item)
 
 -- each element of a name, the root among them, has a child of another name
 abbrev pub HaveChild : List ℕ → List ℕ → List Item → Type 0

@@ -10,7 +10,7 @@ ghost use Rattle.fix_definitions.specs.Wanted.{wanted};
 ghost use Rattle.fix_definitions.specs.Selecting.{selection_wanted};
 ghost use Rattle.fix_definitions.specs.Fixes.{Fixing, fixes};
 ghost use Rattle.document_definitions.specs.Document.{Document, State};
-ghost use Rattle.fix_definitions.specs.Settling.{Plan, first_plan, settle, IsSettled};
+ghost use Rattle.fix_definitions.specs.Settling.{Plan, first_plan, settle, IsSettled, document_settled, settled};
 ghost use Rattle.fix_definitions.specs.Rounds.{IsFirstPlan, ComesToRest, StaysRestless, IsRefused};
 ghost use Rattle.ck_base.specs.declared.faults.EditFault.{EditFault};
 ghost use Rattle.fix_definitions.specs.declared.fault.SettleFault.TheVariants.{NotSettled, FixerRefused, NoMemory};
@@ -52,4 +52,10 @@ pub fn faults_tell_the_fixer()
     ensures refused { (registered : List ℕ → Bool) (fixings : List Fixing) (rounds : ℕ) (state : State) (fixer : ℕ) (fault : EditFault)
         → (settle registered fixings rounds state ≡ Err (FixerRefused fixer fault)) ↔ IsRefused registered fixings rounds state fixer fault }
     ensures told { (registered : List ℕ → Bool) (fixings : List Fixing) (rounds : ℕ) (state : State) → settle registered fixings rounds state ≢ Err NoMemory }
+{}
+
+/// How a document settles doesn't hang on what is in the cells beside it.
+pub fn settling_reads_no_cells()
+    ensures { (registered : List ℕ → Bool) (fixings : List Fixing) (rounds : ℕ) (state : State)
+        → document_settled (settle registered fixings rounds state) ≡ settled registered fixings rounds state.document }
 {}

@@ -1,0 +1,48 @@
+-- The item directly before another one in the same parent.
+use Rattle.std.proofs.Common.{◌≡◌, ◌≢◌, ℕ, zero, suc, ◌+◌, ◌-◌, List, [], ◌∷◌, ◌++◌, false, ◌==◌, if◌then◌else◌, Option, Some, None, refl, sym, ap, ◌∙◌, arith}
+use Rattle.std.specs.Option.{option_and_then}
+use Rattle.ck_base.proofs.Common.{not_zero}
+use Rattle.item_definitions.specs.Item.{Item}
+use Rattle.item_definitions.specs.Children.{item_at, parent_of, offset_of}
+use Rattle.item_definitions.proofs.Paths.{parent_of-push, offset_of-push, path-joined}
+use Rattle.document_definitions.specs.Selection.{before}
+use Rattle.fix_definitions.specs.Places.{left_of}
+
+abbrev before_by : List ℕ → ℕ → Option (List ℕ)
+before_by parent offset = if offset == 0 then None else Some (parent ++ (offset - 1) ∷ [])
+
+before_next : (parent : List ℕ) (offset : ℕ) → before_by parent (suc offset) ≡ Some (parent ++ offset ∷ [])
+before_next parent offset =
+    ap (λ b. if b then None else Some (parent ++ (suc offset - 1) ∷ [])) (not_zero offset)
+    ∙ (let same : suc offset - 1 ≡ offset = omega arith in ap (λ n. Some (parent ++ n ∷ [])) same)
+
+before_push : (parent : List ℕ) (offset : ℕ) → before (parent ++ (offset + 1) ∷ []) ≡ Some (parent ++ offset ∷ [])
+before_push parent offset =
+    ap (before_by (parent_of (parent ++ (offset + 1) ∷ []))) (offset_of-push parent (offset + 1))
+    ∙ ap (λ p. before_by p (offset + 1)) (parent_of-push parent (offset + 1))
+    ∙ (let next : offset + 1 ≡ suc offset = omega arith in ap (before_by parent) next)
+    ∙ before_next parent offset
+
+-- the item at an offset is the one before the item at the next offset
+pub left_is : (items : List Item) (parent : List ℕ) (offset : ℕ) → left_of items (parent ++ (offset + 1) ∷ []) ≡ item_at (parent ++ offset ∷ []) items
+left_is items parent offset = ap (option_and_then (λ other. item_at other items)) (before_push parent offset)
+
+-- an item that has another before it stands at the next offset
+pub record Neighbours (items : List Item) (path : List ℕ) (left : Item) : Type 0 where
+  pub parent : List ℕ
+  pub offset : ℕ
+  pub here : path ≡ parent ++ (offset + 1) ∷ []
+  pub there : item_at (parent ++ offset ∷ []) items ≡ Some left
+
+pub neighbours : (items : List Item) (path : List ℕ) (left : Item) → path ≢ [] → left_of items path ≡ Some left → Neighbours items path left
+neighbours items path left some e = go (offset_of path) refl
+  where
+    go : (offset : ℕ) → offset_of path ≡ offset → Neighbours items path left
+    go zero o = absurd (let none = sym (ap (λ n. option_and_then (λ other. item_at other items) (before_by (parent_of path) n)) o) ∙ e in cc)
+    go (suc offset) o = record {
+      parent = parent_of path;
+      offset = offset;
+      here = path-joined path some ∙ (let next : offset_of path ≡ offset + 1 = o ∙ omega arith in ap (λ n. parent_of path ++ n ∷ []) next);
+      there = sym (ap (λ n. option_and_then (λ other. item_at other items) (before_by (parent_of path) n)) o
+          ∙ ap (option_and_then (λ other. item_at other items)) (before_next (parent_of path) offset)) ∙ e;
+    }
