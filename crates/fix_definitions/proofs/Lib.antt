@@ -3,3 +3,4 @@ pub mod Found
 pub mod Rounds
 pub mod Neighbours
 pub mod Elements
+pub mod Attributes

@@ -1,10 +1,12 @@
--- The item directly before another one in the same parent.
-use Rattle.std.proofs.Common.{◌≡◌, ◌≢◌, ℕ, zero, suc, ◌+◌, ◌-◌, List, [], ◌∷◌, ◌++◌, false, ◌==◌, if◌then◌else◌, Option, Some, None, refl, sym, ap, ◌∙◌, arith}
-use Rattle.std.specs.Option.{option_and_then}
+-- The item directly before another one in the same parent, and the names of the ancestors that both have.
+use Rattle.std.proofs.Common.{◌≡◌, ◌≢◌, ℕ, zero, suc, ◌+◌, ◌-◌, List, [], ◌∷◌, ◌++◌, false, ◌==◌, if◌then◌else◌, Option, Some, None, codes, slice_get, refl, sym, ap, ◌∙◌, arith}
+use Rattle.std.specs.Option.{option_and_then, option_map_or}
 use Rattle.ck_base.proofs.Common.{not_zero}
-use Rattle.item_definitions.specs.Item.{Item}
+use Rattle.item_definitions.specs.Item.{Item, inner}
 use Rattle.item_definitions.specs.Children.{item_at, parent_of, offset_of}
 use Rattle.item_definitions.proofs.Paths.{parent_of-push, offset_of-push, path-joined}
+use Rattle.breach_definitions.specs.Breach.{item_name}
+use Rattle.breach_definitions.specs.Obeys.{names_on, ancestors_at}
 use Rattle.document_definitions.specs.Selection.{before}
 use Rattle.fix_definitions.specs.Places.{left_of}
 
@@ -46,3 +48,18 @@ neighbours items path left some e = go (offset_of path) refl
       there = sym (ap (λ n. option_and_then (λ other. item_at other items) (before_by (parent_of path) n)) o
           ∙ ap (option_and_then (λ other. item_at other items)) (before_next (parent_of path) offset)) ∙ e;
     }
+
+pub no_left : (items : List Item) (parent : List ℕ) → left_of items (parent ++ 0 ∷ []) ≡ None
+no_left items parent =
+    ap (λ n. option_and_then (λ other. item_at other items) (before_by (parent_of (parent ++ 0 ∷ [])) n)) (offset_of-push parent 0)
+
+-- the ancestors of an item don't hang on its offset
+pub names_same : (parent : List ℕ) (offset other : ℕ) (items : List Item) → names_on (parent ++ offset ∷ []) items ≡ names_on (parent ++ other ∷ []) items
+names_same [] offset other items = refl
+names_same (index ∷ []) offset other items =
+    λ i. option_map_or (λ item. item_name item ∷ option_map_or (λ inside. names_same [] offset other inside i) (inner item) []) (slice_get items index) []
+names_same (index ∷ next ∷ parent) offset other items =
+    λ i. option_map_or (λ item. item_name item ∷ option_map_or (λ inside. names_same (next ∷ parent) offset other inside i) (inner item) []) (slice_get items index) []
+
+pub ancestors_same : (parent : List ℕ) (offset other : ℕ) (items : List Item) → ancestors_at (parent ++ offset ∷ []) items ≡ ancestors_at (parent ++ other ∷ []) items
+ancestors_same parent offset other items = ap (λ names. codes "$root" ∷ names) (names_same parent offset other items)
