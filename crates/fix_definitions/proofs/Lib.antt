@@ -4,3 +4,4 @@ pub mod Rounds
 pub mod Neighbours
 pub mod Elements
 pub mod Attributes
+pub mod Positions

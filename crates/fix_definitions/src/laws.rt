@@ -7,7 +7,7 @@ ghost use Rattle.schema_definitions.specs.Allowed.{Rules};
 ghost use Rattle.fix_definitions.specs.declared.stock.StockFixer.{StockFixer};
 ghost use Rattle.fix_definitions.specs.Places.{Place, places};
 ghost use Rattle.fix_definitions.specs.Wanted.{wanted};
-ghost use Rattle.fix_definitions.specs.Selecting.{selection_wanted};
+ghost use Rattle.fix_definitions.specs.Selecting.{positions, selection_wanted};
 ghost use Rattle.fix_definitions.specs.Fixes.{Fixing, fixes};
 ghost use Rattle.document_definitions.specs.Document.{Document, State};
 ghost use Rattle.fix_definitions.specs.Settling.{Plan, first_plan, settle, IsSettled, document_settled, settled};
@@ -15,7 +15,7 @@ ghost use Rattle.fix_definitions.specs.Rounds.{IsFirstPlan, ComesToRest, StaysRe
 ghost use Rattle.ck_base.specs.declared.faults.EditFault.{EditFault};
 ghost use Rattle.fix_definitions.specs.declared.fault.SettleFault.TheVariants.{NotSettled, FixerRefused, NoMemory};
 ghost use Rattle.fix_definitions.specs.AtRest.{IsPlaceOf};
-ghost use Rattle.item_definitions.specs.Position.{is_before};
+ghost use Rattle.item_definitions.specs.Position.{is_before, IsIn};
 
 /// The places of a document are those of the root and of each item that is found at a path, in document order.
 pub fn places_are_those_of_the_document()
@@ -58,4 +58,10 @@ pub fn faults_tell_the_fixer()
 pub fn settling_reads_no_cells()
     ensures { (registered : List ℕ → Bool) (fixings : List Fixing) (rounds : ℕ) (state : State)
         → document_settled (settle registered fixings rounds state) ≡ settled registered fixings rounds state.document }
+{}
+
+/// The positions among which the selection's place is looked for are those of the document, in document order.
+pub fn positions_are_those_of_the_document()
+    ensures members { (items : List Item) (position : List ℕ) → Contains (positions items) position ↔ IsIn items position }
+    ensures order { (items : List Item) → AllPairs (λ position other. IsTrue (is_before position other)) (positions items) }
 {}
