@@ -1,5 +1,6 @@
 -- What a document is like of which the fixer of attributes wants nothing.
-use Rattle.std.proofs.Common.{◌≡◌, ℕ, zero, suc, ◌+◌, List, [], ◌∷◌, ◌++◌, map, filter, cond, Bool, true, false, not, if◌then◌else◌, All, ◌↔◌, Option, Some, None, refl, sym, ap, ◌∙◌, subst, arith}
+use Rattle.std.proofs.Common.{◌≡◌, ℕ, zero, suc, ◌+◌, List, [], ◌∷◌, ◌++◌, map, filter, cond, Bool, true, false, not, if◌then◌else◌, All, ◌↔◌, Option, Some}
+use Rattle.std.proofs.Common.{None, refl, sym, ap, ◌∙◌, subst, arith}
 use Rattle.std.specs.Option.{option_map_or}
 use Rattle.std.specs.List.{prefix_len}
 use Rattle.std.specs.Map.{keys_of}
@@ -14,14 +15,13 @@ use Rattle.edit_definitions.specs.declared.edit.Edit.TheVariants.{RemoveAttribut
 use Rattle.edit_definitions.specs.declared.edit.Target.{Target}
 use Rattle.edit_definitions.specs.declared.edit.Target.TheVariants.{Range as InRange, Element as OfElement}
 use Rattle.edit_definitions.proofs.Reached.{found}
-use Rattle.print_definitions.specs.ModelText.{same_attributes}
 use Rattle.print_definitions.proofs.Runs.{equal_attributes}
 use Rattle.schema_definitions.specs.Allowed.{Rules, check_attribute}
 use Rattle.breach_definitions.specs.Breach.{item_name}
 use Rattle.breach_definitions.specs.Obeys.{ancestors_at, MayHaveAll}
 use Rattle.fix_definitions.specs.declared.stock.StockFixer.TheVariants.{DropAttributes}
-use Rattle.fix_definitions.specs.Places.{Place, root_place, left_of, right_of, places}
-use Rattle.fix_definitions.specs.Wanted.{denied_keys, is_alike, run_from, target_at, dropped, wanted}
+use Rattle.fix_definitions.specs.Places.{left_of, right_of, places}
+use Rattle.fix_definitions.specs.Wanted.{denied_keys, is_alike, target_at, dropped, wanted}
 use Rattle.fix_definitions.specs.AtRest.{place_at, MayHaveTheirs}
 use Rattle.fix_definitions.proofs.Plans.{empty_map}
 use Rattle.fix_definitions.proofs.Found.{everywhere, at_all}
@@ -121,6 +121,8 @@ module _ (rules : Rules) (items : List Item) where
 
       back : MayHaveTheirs rules items → All (λ place. wanted rules DropAttributes place ≡ []) (places items)
       back h =
-          at_all (λ place. wanted rules DropAttributes place ≡ []) items
-          (refl, λ path item e. nothing_dropped (denied_keys rules (ancestors_at path items) item) (target_at (place_at items path item) item)
-          (passed (check_attribute rules (ancestors_at path items) (item_name item)) (attributes_of item) (h path item e)))
+          at_all (λ place. wanted rules DropAttributes place ≡ []) items (
+            refl,
+            λ path item e. nothing_dropped (denied_keys rules (ancestors_at path items) item) (target_at (place_at items path item) item)
+                (passed (check_attribute rules (ancestors_at path items) (item_name item)) (attributes_of item) (h path item e)),
+          )

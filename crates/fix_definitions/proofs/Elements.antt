@@ -1,28 +1,24 @@
 -- What a document is like of which the fixers of elements want nothing.
-use Rattle.std.proofs.Common.{◌≡◌, ◌≢◌, ℕ, zero, suc, ◌+◌, ◌-◌, List, [], ◌∷◌, ◌++◌, length, Bool, true, false, not, ◌&&◌, ◌||◌, ◌==◌, if◌then◌else◌, IsTrue, All, Contains, ◌↔◌, Option, Some, None, refl, sym, ap, ◌∙◌, subst, arith}
-use Rattle.std.specs.List.{list_any}
-use Rattle.std.specs.Option.{option_map_or, option_and_then}
+use Rattle.std.proofs.Common.{◌≡◌, ◌≢◌, ℕ, ◌+◌, List, [], ◌∷◌, ◌++◌, length, Bool, true, false, not, ◌&&◌, IsTrue, All, ◌↔◌, Option, Some, None, refl, sym, ap}
+use Rattle.std.proofs.Common.{◌∙◌, subst}
+use Rattle.std.specs.Option.{option_map_or}
 use Rattle.std.proofs.lemmas.List.Folds.{Any-from_list_any, list_any-from_Any}
 use Rattle.ck_base.proofs.Common.{and_false}
-use Rattle.item_definitions.specs.Item.{Item, Attributes, character, element, none, more, attributes_of}
-use Rattle.item_definitions.specs.Children.{item_at, parent_of, offset_of}
+use Rattle.item_definitions.specs.Item.{Item, character, element, none, more, attributes_of}
+use Rattle.item_definitions.specs.Children.{item_at}
 use Rattle.item_definitions.specs.Position.{behind}
-use Rattle.item_definitions.proofs.Paths.{parent_of-push, offset_of-push, path-joined}
-use Rattle.document_definitions.specs.Selection.{before}
-use Rattle.edit_definitions.specs.declared.edit.Edit.{Edit}
 use Rattle.edit_definitions.specs.declared.edit.Edit.TheVariants.{InsertElement, Remove, Merge}
 use Rattle.edit_definitions.proofs.Reached.{found}
 use Rattle.print_definitions.specs.ModelText.{same_attributes}
 use Rattle.print_definitions.proofs.Runs.{own_attributes, equal_attributes}
-use Rattle.breach_definitions.proofs.Placed.{first}
 use Rattle.schema_definitions.specs.Allowed.{Rules}
 use Rattle.fix_definitions.specs.declared.stock.StockFixer.TheVariants.{Fill, JoinNeighbours, RemoveEmpty, Require}
-use Rattle.fix_definitions.specs.Places.{Place, root_of, root_place, left_of, place_of, places, children_in}
+use Rattle.fix_definitions.specs.Places.{root_of, left_of, places, children_in}
 use Rattle.fix_definitions.specs.Wanted.{edit_if, is_named, is_childless, has_child, is_root, joins, wanted}
-use Rattle.fix_definitions.specs.AtRest.{item_or_root, place_at, AreFilled, AreApart, NoneIsEmpty, HasChild, HaveChild}
+use Rattle.fix_definitions.specs.AtRest.{item_or_root, AreFilled, AreApart, NoneIsEmpty, HasChild, HaveChild}
 use Rattle.fix_definitions.proofs.Plans.{no_edit, not_tested}
 use Rattle.fix_definitions.proofs.Neighbours.{left_is, Neighbours, neighbours}
-use Rattle.fix_definitions.proofs.Found.{HoldsEverywhere, everywhere, at_all}
+use Rattle.fix_definitions.proofs.Found.{everywhere, at_all}
 
 -- ---- children
 
@@ -63,10 +59,11 @@ filled rules parent child items = (there, back)
 
     back : AreFilled parent items → All (λ place. wanted rules (Fill parent child) place ≡ []) (places items)
     back h =
-        at_all (λ place. wanted rules (Fill parent child) place ≡ []) items
-        (not_tested (is_named parent (root_of items) && is_childless (root_of items)) (InsertElement ([] ++ 0 ∷ []) child []) (with_children parent (root_of items) (h [] (root_of items) refl)),
-        λ path item e. not_tested (is_named parent item && is_childless item) (InsertElement (path ++ 0 ∷ []) child [])
-        (with_children parent item (h path item (or_root items path item e))))
+        at_all (λ place. wanted rules (Fill parent child) place ≡ []) items (
+          not_tested (is_named parent (root_of items) && is_childless (root_of items)) (InsertElement ([] ++ 0 ∷ []) child []) (with_children parent (root_of items) (h [] (root_of items) refl)),
+          λ path item e. not_tested (is_named parent item && is_childless item) (InsertElement (path ++ 0 ∷ []) child [])
+              (with_children parent item (h path item (or_root items path item e))),
+        )
 
 -- ---- elements that aren't empty
 
@@ -98,11 +95,12 @@ not_empty rules name items = (there, back)
 
     back : NoneIsEmpty name items → All (λ place. wanted rules (RemoveEmpty name) place ≡ []) (places items)
     back h =
-        at_all (λ place. wanted rules (RemoveEmpty name) place ≡ []) items
-        (not_tested (is_named name (root_of items) && is_childless (root_of items) && false) (Remove [] (behind []))
-        (none_of (is_named name (root_of items)) (is_childless (root_of items)) false refl),
-        λ path item e. not_tested (is_named name item && is_childless item && not (is_root path)) (Remove path (behind path))
-        (all_three (is_named name item) (is_childless item) (not (is_root path)) (with_children name item (h path item e))))
+        at_all (λ place. wanted rules (RemoveEmpty name) place ≡ []) items (
+          not_tested (is_named name (root_of items) && is_childless (root_of items) && false) (Remove [] (behind []))
+              (none_of (is_named name (root_of items)) (is_childless (root_of items)) false refl),
+          λ path item e. not_tested (is_named name item && is_childless item && not (is_root path)) (Remove path (behind path))
+              (all_three (is_named name item) (is_childless item) (not (is_root path)) (with_children name item (h path item e))),
+        )
 
 -- ---- elements with what they have to have
 

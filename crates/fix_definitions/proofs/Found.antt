@@ -1,5 +1,5 @@
 -- The places of a document are the root and each item that is found at a path.
-use Rattle.std.proofs.Common.{◌≡◌, ℕ, List, [], ◌∷◌, map, All, AllPairs, Contains, IsTrue, ◌↔◌, inl, inr, Option, Some, refl, sym, ap, ◌∙◌, subst, arith}
+use Rattle.std.proofs.Common.{◌≡◌, ℕ, List, [], ◌∷◌, map, All, AllPairs, Contains, IsTrue, ◌↔◌, inl, inr, Some, refl, sym, subst, arith}
 use Rattle.std.proofs.lemmas.List.Elements.{All-nil, All-cons, All-head, All-tail, All-contains, All-contains_itself}
 use Rattle.std.proofs.lemmas.List.Kept.{AllPairs-cons}
 use Rattle.item_definitions.specs.Item.{Item}
@@ -25,11 +25,12 @@ abbrev pub HoldsEverywhere : (Place → Type 0) → List Item → Type 0
 HoldsEverywhere P items = P (root_place items) × ((path : List ℕ) (item : Item) → item_at path items ≡ Some item → P (place_at items path item))
 
 pub everywhere : (P : Place → Type 0) (items : List Item) → All P (places items) → HoldsEverywhere P items
-everywhere P items h =
-    (All-head P (root_place items) (map (place_of items) (placed_items items)) h,
-    λ path item e. All-contains (λ placed. P (place_of items placed)) (placed_items items) (record { ancestors = ancestors_at path items; path = path; item = item })
-    (of_each P (place_of items) (placed_items items) (All-tail P (root_place items) (map (place_of items) (placed_items items)) h))
-    ((members_are_placed items (record { ancestors = ancestors_at path items; path = path; item = item })).1 (record { found = e; under = refl })))
+everywhere P items h = (
+  All-head P (root_place items) (map (place_of items) (placed_items items)) h,
+  λ path item e. All-contains (λ placed. P (place_of items placed)) (placed_items items) (record { ancestors = ancestors_at path items; path = path; item = item })
+      (of_each P (place_of items) (placed_items items) (All-tail P (root_place items) (map (place_of items) (placed_items items)) h))
+      ((members_are_placed items (record { ancestors = ancestors_at path items; path = path; item = item })).1 (record { found = e; under = refl })),
+)
 
 pub at_all : (P : Place → Type 0) (items : List Item) → HoldsEverywhere P items → All P (places items)
 at_all P items h =

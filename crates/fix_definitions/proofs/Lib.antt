@@ -5,3 +5,5 @@ pub mod Neighbours
 pub mod Elements
 pub mod Attributes
 pub mod Positions
+pub mod Selected
+pub mod Resting

@@ -1,5 +1,7 @@
 -- The positions of a document that a walk finds are those that are in it, in document order.
-use Rattle.std.proofs.Common.{◌≡◌, ◌≢◌, ℕ, zero, suc, ◌+◌, ◌<◌, ◌≤◌, List, [], ◌∷◌, ◌++◌, length, Bool, true, ◌&&◌, ◌||◌, ◌==◌, nat_lt, not, IsTrue, All, AllPairs, Contains, ◌↔◌, inl, inr, Option, Some, None, IsSomeAnd, option_map, slice_get, refl, sym, ap, ◌∙◌, subst, arith, append_assoc, append-nil}
+use Rattle.std.proofs.Common.{◌≡◌, ℕ, zero, suc, ◌+◌, ◌<◌, ◌≤◌, List, [], ◌∷◌, ◌++◌, length, Bool, true, ◌&&◌, ◌||◌, ◌==◌, nat_lt, not, IsTrue, All, AllPairs}
+use Rattle.std.proofs.Common.{Contains, ◌↔◌, inl, inr, Option, Some, None, IsSomeAnd, option_map, slice_get, refl, sym, ap, ◌∙◌, subst, arith, append_assoc}
+use Rattle.std.proofs.Common.{append-nil}
 use Rattle.std.specs.Option.{option_and_then}
 use Rattle.std.proofs.lemmas.Bool.Decides.{nat_tests}
 use Rattle.std.proofs.lemmas.List.Elements.{All-append, All-nil, Contains-append_left, Contains-append_right, Contains-append_cases}
@@ -39,10 +41,11 @@ in_stands (index ∷ next ∷ rest) items h = go (in_stands (next ∷ rest)) (sl
 stands_in : (position : List ℕ) (items : List Item) → Stands position items → IsIn items position
 stands_in [] items h = absurd h
 stands_in (offset ∷ []) items h = ((λ e. cc), h)
-stands_in (index ∷ next ∷ rest) items h =
-    ((λ e. cc),
-    subst (λ o. IsSomeAnd (option_map length (option_and_then (λ item. option_and_then (children_at (parent_of (next ∷ rest))) (inner item)) o)) (λ count. offset_of (next ∷ rest) ≤ count)) (sym h.2)
-    (subst (λ o. IsSomeAnd (option_map length (option_and_then (children_at (parent_of (next ∷ rest))) o)) (λ count. offset_of (next ∷ rest) ≤ count)) (sym h.3) (stands_in (next ∷ rest) h.1 h.4).1))
+stands_in (index ∷ next ∷ rest) items h = (
+  (λ e. cc),
+  subst (λ o. IsSomeAnd (option_map length (option_and_then (λ item. option_and_then (children_at (parent_of (next ∷ rest))) (inner item)) o)) (λ count. offset_of (next ∷ rest) ≤ count)) (sym h.2)
+      (subst (λ o. IsSomeAnd (option_map length (option_and_then (children_at (parent_of (next ∷ rest))) o)) (λ count. offset_of (next ∷ rest) ≤ count)) (sym h.3) (stands_in (next ∷ rest) h.1 h.4).1),
+)
 
 stands-later : (place : ℕ) (rest : List ℕ) (item : Item) (items : List Item) → Stands (place ∷ rest) items → Stands (suc place ∷ rest) (item ∷ items)
 stands-later place [] item items h = omega (arith, h)

@@ -1,5 +1,6 @@
 -- How documents settle, round by round.
-use Rattle.std.proofs.Common.{◌≡◌, ◌≢◌, ℕ, zero, suc, ◌+◌, ◌<◌, ◌≤◌, List, [], ◌∷◌, ◌++◌, length, Bool, All, ◌↔◌, Option, Some, None, Result, Ok, Err, refl, sym, ap, ◌∙◌, subst, arith}
+use Rattle.std.proofs.Common.{◌≡◌, ◌≢◌, ℕ, zero, suc, ◌+◌, ◌<◌, ◌≤◌, List, [], ◌∷◌, ◌++◌, length, Bool, ◌↔◌, Option, Some, None, Result, Ok, Err, refl, sym, ap}
+use Rattle.std.proofs.Common.{◌∙◌, subst, arith}
 use Rattle.std.specs.Option.{option_or}
 use Rattle.std.proofs.lemmas.List.Elements.{All-nil, All-cons, All-head, All-tail}
 use Rattle.ck_base.specs.declared.faults.EditFault.{EditFault}
@@ -7,10 +8,10 @@ use Rattle.document_definitions.specs.Document.{Document, State}
 use Rattle.edit_definitions.specs.declared.edit.Edit.{Edit}
 use Rattle.edit_definitions.specs.Performed.{all_performed, apart, document_made}
 use Rattle.edit_definitions.proofs.Apart.{alike}
-use Rattle.fix_definitions.specs.declared.fault.SettleFault.{SettleFault}
 use Rattle.fix_definitions.specs.declared.fault.SettleFault.TheVariants.{NotSettled, FixerRefused, NoMemory}
 use Rattle.fix_definitions.specs.Fixes.{Fixing}
-use Rattle.fix_definitions.specs.Settling.{Plan, plan_of, plan_by, first_plan, fixer_number, after_plan, at_end, round, settled_in, settle, IsSettled, document_settled, settled}
+use Rattle.fix_definitions.specs.Settling.{Plan, plan_of, plan_by, first_plan, fixer_number, after_plan, at_end, round, settled_in, settle, IsSettled}
+use Rattle.fix_definitions.specs.Settling.{document_settled, settled}
 use Rattle.fix_definitions.specs.Rounds.{IsFirstPlan, RoundsLead, ComesToRest, StaysRestless, IsRefused}
 
 -- ---- the first plan
@@ -118,14 +119,16 @@ module _ (registered : List ℕ → Bool) (fixings : List Fixing) (rounds : ℕ)
           → after_plan plan.fixer result (settled_in registered fixings rounds left) ≡ Err (NotSettled others fixer)
           → (others ≡ rounds) × StaysRestless registered fixings (suc left) state fixer
       on rest plan (Ok next) p q e =
-          (let later = rest next others fixer e in
-          (later.0, record {
-            last = later.1.last;
-            plan = later.1.plan;
-            lead = (plan, next, p, q, later.1.lead);
-            wanted = later.1.wanted;
-            number = later.1.number;
-          }))
+          (let later = rest next others fixer e in (
+            later.0,
+            record {
+              last = later.1.last;
+              plan = later.1.plan;
+              lead = (plan, next, p, q, later.1.lead);
+              wanted = later.1.wanted;
+              number = later.1.number;
+            },
+          ))
       on rest plan (Err fault) p q e = absurd cc
 
       go : ((next : State) (others fixer : ℕ) → settled_in registered fixings rounds left next ≡ Err (NotSettled others fixer)
@@ -232,17 +235,19 @@ settles registered fixings rounds state made =
 
 pub restless : (registered : List ℕ → Bool) (fixings : List Fixing) (rounds : ℕ) (state : State) (others fixer : ℕ)
     → (settle registered fixings rounds state ≡ Err (NotSettled others fixer)) ↔ ((others ≡ rounds) × StaysRestless registered fixings rounds state fixer)
-restless registered fixings rounds state others fixer =
-    (restless_in registered fixings rounds rounds state others fixer,
-    λ h. in_unrest registered fixings rounds rounds state h.1.last h.1.plan h.1.lead h.1.wanted ∙ ap (λ n. Err (NotSettled rounds n)) (sym h.1.number)
-    ∙ ap (λ n. Err (NotSettled n fixer)) (sym h.0))
+restless registered fixings rounds state others fixer = (
+  restless_in registered fixings rounds rounds state others fixer,
+  λ h. in_unrest registered fixings rounds rounds state h.1.last h.1.plan h.1.lead h.1.wanted ∙ ap (λ n. Err (NotSettled rounds n)) (sym h.1.number)
+      ∙ ap (λ n. Err (NotSettled n fixer)) (sym h.0),
+)
 
 pub refused : (registered : List ℕ → Bool) (fixings : List Fixing) (rounds : ℕ) (state : State) (fixer : ℕ) (fault : EditFault)
     → (settle registered fixings rounds state ≡ Err (FixerRefused fixer fault)) ↔ IsRefused registered fixings rounds state fixer fault
-refused registered fixings rounds state fixer fault =
-    (refused_in registered fixings rounds rounds state fixer fault,
-    λ h. in_refusal registered fixings rounds h.made_rounds rounds state h.last h.plan fault h.within h.lead h.wanted h.refused
-    ∙ ap (λ n. Err (FixerRefused n fault)) (sym h.number))
+refused registered fixings rounds state fixer fault = (
+  refused_in registered fixings rounds rounds state fixer fault,
+  λ h. in_refusal registered fixings rounds h.made_rounds rounds state h.last h.plan fault h.within h.lead h.wanted h.refused
+      ∙ ap (λ n. Err (FixerRefused n fault)) (sym h.number),
+)
 
 pub told : (registered : List ℕ → Bool) (fixings : List Fixing) (rounds : ℕ) (state : State) → settle registered fixings rounds state ≢ Err NoMemory
 told registered fixings rounds state = told_in registered fixings rounds rounds state
@@ -265,9 +270,16 @@ first_is document number (fixing ∷ fixings) plan e = go (first_is document (nu
         (let later = rest e in
         (fixing ∷ later.0, later.1, later.2, ap (λ fs. fixing ∷ fs) later.3, later.4 ∙ omega arith, All-cons (Wants document) fixing later.0 p later.5, later.6, later.7))
     go rest (edit ∷ edits) p e =
-        (let same : record { fixer = number; edits = edit ∷ edits } ≡ plan = cc in
-        ([], fixing, fixings, refl, ap (λ (plan : Plan). plan.fixer) (sym same) ∙ omega arith, All-nil (Wants document), ap (λ (plan : Plan). plan.edits) (sym same) ∙ sym p,
-        λ f. none_left (ap (λ (plan : Plan). plan.edits) same ∙ f)))
+        (let same : record { fixer = number; edits = edit ∷ edits } ≡ plan = cc in (
+          [],
+          fixing,
+          fixings,
+          refl,
+          ap (λ (plan : Plan). plan.fixer) (sym same) ∙ omega arith,
+          All-nil (Wants document),
+          ap (λ (plan : Plan). plan.edits) (sym same) ∙ sym p,
+          λ f. none_left (ap (λ (plan : Plan). plan.edits) same ∙ f),
+        ))
       where
         none_left : edit ∷ edits ≡ [] → ⊥
         none_left e = cc

@@ -5,7 +5,6 @@ use Rattle.item_definitions.specs.Item.{Item, attributes_of}
 use Rattle.item_definitions.specs.Children.{item_at}
 use Rattle.item_definitions.specs.Position.{Range, IsIn, behind}
 use Rattle.schema_definitions.specs.Allowed.{Rules}
-use Rattle.breach_definitions.specs.Breach.{Placed}
 use Rattle.breach_definitions.specs.Obeys.{ancestors_at, MayHaveAll}
 use Rattle.fix_definitions.specs.Places.{Place, root_of, root_place, place_of, children_in}
 use Rattle.fix_definitions.specs.Wanted.{is_named}

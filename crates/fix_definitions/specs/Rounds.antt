@@ -1,5 +1,5 @@
 -- What the rounds of fixers do, each in words of its own.
-use Rattle.std.specs.Prelude.{◌≡◌, ◌≢◌, ℕ, zero, suc, ◌+◌, ◌<◌, ◌≤◌, List, [], ◌∷◌, ◌++◌, length, Bool, All, Some, Ok, Err}
+use Rattle.std.specs.Prelude.{◌≡◌, ◌≢◌, ℕ, zero, suc, ◌+◌, ◌<◌, ◌≤◌, List, [], ◌∷◌, ◌++◌, length, Bool, Some, Ok, Err}
 use Rattle.ck_base.specs.declared.faults.EditFault.{EditFault}
 use Rattle.document_definitions.specs.Document.{Document, State}
 use Rattle.edit_definitions.specs.Performed.{all_performed}

@@ -5,6 +5,7 @@ ghost use Rattle.document_definitions.specs.Markers.{Markers};
 ghost use Rattle.document_definitions.specs.Selection.{Selection};
 ghost use Rattle.schema_definitions.specs.Allowed.{Rules};
 ghost use Rattle.fix_definitions.specs.declared.stock.StockFixer.{StockFixer};
+ghost use Rattle.fix_definitions.specs.declared.stock.StockFixer.TheVariants.{DropAttributes, Fill, JoinNeighbours, RemoveEmpty, Require, SelectionPlace};
 ghost use Rattle.fix_definitions.specs.Places.{Place, places};
 ghost use Rattle.fix_definitions.specs.Wanted.{wanted};
 ghost use Rattle.fix_definitions.specs.Selecting.{positions, selection_wanted};
@@ -14,7 +15,7 @@ ghost use Rattle.fix_definitions.specs.Settling.{Plan, first_plan, settle, IsSet
 ghost use Rattle.fix_definitions.specs.Rounds.{IsFirstPlan, ComesToRest, StaysRestless, IsRefused};
 ghost use Rattle.ck_base.specs.declared.faults.EditFault.{EditFault};
 ghost use Rattle.fix_definitions.specs.declared.fault.SettleFault.TheVariants.{NotSettled, FixerRefused, NoMemory};
-ghost use Rattle.fix_definitions.specs.AtRest.{IsPlaceOf};
+ghost use Rattle.fix_definitions.specs.AtRest.{IsPlaceOf, MayHaveTheirs, AreFilled, AreApart, NoneIsEmpty, HaveChild, IsWellSelected};
 ghost use Rattle.item_definitions.specs.Position.{is_before, IsIn};
 
 /// The places of a document are those of the root and of each item that is found at a path, in document order.
@@ -64,4 +65,22 @@ pub fn settling_reads_no_cells()
 pub fn positions_are_those_of_the_document()
     ensures members { (items : List Item) (position : List ℕ) → Contains (positions items) position ↔ IsIn items position }
     ensures order { (items : List Item) → AllPairs (λ position other. IsTrue (is_before position other)) (positions items) }
+{}
+
+/// A stock fixer wants nothing of a document exactly where: the schema allows each item its attributes; each element of the name has children; no
+/// two neighbours of the name have equal attributes; no element of the name but the root is empty; each element of the one name has a child of the
+/// other; both ends of the selection stand where text may, or it is round one element that can be selected, or text may stand nowhere.
+pub fn fixers_want_nothing_of_what_is_as_they_want_it()
+    ensures drop_attributes { (rules : Rules) (items : List Item) (markers : Markers) (selection : Selection)
+        → (fixes rules DropAttributes items markers selection ≡ []) ↔ MayHaveTheirs rules items }
+    ensures fill { (rules : Rules) (items : List Item) (markers : Markers) (selection : Selection) (parent child : List ℕ)
+        → (fixes rules (Fill parent child) items markers selection ≡ []) ↔ AreFilled parent items }
+    ensures join_neighbours { (rules : Rules) (items : List Item) (markers : Markers) (selection : Selection) (name : List ℕ)
+        → (fixes rules (JoinNeighbours name) items markers selection ≡ []) ↔ AreApart name items }
+    ensures remove_empty { (rules : Rules) (items : List Item) (markers : Markers) (selection : Selection) (name : List ℕ)
+        → (fixes rules (RemoveEmpty name) items markers selection ≡ []) ↔ NoneIsEmpty name items }
+    ensures require { (rules : Rules) (items : List Item) (markers : Markers) (selection : Selection) (parent child : List ℕ)
+        → (fixes rules (Require parent child) items markers selection ≡ []) ↔ HaveChild parent child items }
+    ensures selection_place { (rules : Rules) (items : List Item) (markers : Markers) (selection : Selection)
+        → (fixes rules SelectionPlace items markers selection ≡ []) ↔ IsWellSelected rules items selection.range }
 {}
