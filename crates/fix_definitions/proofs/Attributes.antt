@@ -46,7 +46,8 @@ module _ (test : List ℕ → Bool) where
   passed : (attributes : Attributes) → All Passes attributes → filter (λ key. not (test key)) (keys_of attributes) ≡ []
   passed [] h = refl
   passed (entry ∷ attributes) h =
-      ap (λ b. cond (not b) (entry.0 ∷ filter (λ key. not (test key)) (keys_of attributes)) (filter (λ key. not (test key)) (keys_of attributes))) (All-head Passes entry attributes h)
+      ap (λ b. cond (not b) (entry.0 ∷ filter (λ key. not (test key)) (keys_of attributes)) (filter (λ key. not (test key)) (keys_of attributes)))
+      (All-head Passes entry attributes h)
       ∙ passed attributes (All-tail Passes entry attributes h)
 
 module _ (rules : Rules) (items : List Item) where
@@ -58,7 +59,8 @@ module _ (rules : Rules) (items : List Item) where
 
   -- ---- an item that isn't asked has the attributes of the character before it
 
-  alike_has : (path : List ℕ) (scalar : ℕ) (attributes : Attributes) (left : Item) → is_alike attributes left ≡ true → MayHave path left → MayHave path (character scalar attributes)
+  alike_has : (path : List ℕ) (scalar : ℕ) (attributes : Attributes) (left : Item) → is_alike attributes left ≡ true → MayHave path left
+      → MayHave path (character scalar attributes)
   alike_has path scalar attributes (character other others) a h =
       subst (MayHaveAll rules (ancestors_at path items) (character scalar attributes)) (equal_attributes others attributes a) h
   alike_has path scalar attributes (element id name others children) a h = absurd cc
@@ -71,7 +73,8 @@ module _ (rules : Rules) (items : List Item) where
   asked : (path : List ℕ) (item : Item) (o : Option Item) → left_of items path ≡ o → dropped rules (place_at items path item) ≡ []
       → ((left : Item) → o ≡ Some left → MayHave path left) → MayHave path item
   asked path (element id name attributes children) o l w h =
-      none_denied path (element id name attributes children) (empty_map (RemoveAttribute (OfElement path)) (denied_keys rules (ancestors_at path items) (element id name attributes children)) w)
+      none_denied path (element id name attributes children)
+      (empty_map (RemoveAttribute (OfElement path)) (denied_keys rules (ancestors_at path items) (element id name attributes children)) w)
   asked path (character scalar attributes) o l w h = go o (sym (ap (dropped_behind attributes keys target) l) ∙ w) h
     where
       keys : List (List ℕ)
@@ -103,7 +106,8 @@ module _ (rules : Rules) (items : List Item) where
       let next : offset + 1 ≡ suc offset = omega arith in
       asked (parent ++ suc offset ∷ []) item (item_at (parent ++ offset ∷ []) items)
       (ap (λ n. left_of items (parent ++ n ∷ [])) (sym next) ∙ left_is items parent offset) (w (parent ++ suc offset ∷ []) item e)
-      (λ left f. subst (λ names. MayHaveAll rules names left (attributes_of left)) (ancestors_same parent offset (suc offset) items) (along w parent offset left f))
+      (λ left f. subst (λ names. MayHaveAll rules names left (attributes_of left)) (ancestors_same parent offset (suc offset) items)
+      (along w parent offset left f))
 
   nothing_dropped : (keys : List (List ℕ)) (target : Option Target) → keys ≡ [] → option_map_or (λ target. map (RemoveAttribute target) keys) target [] ≡ []
   nothing_dropped keys None e = refl

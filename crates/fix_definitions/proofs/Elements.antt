@@ -44,7 +44,8 @@ or_root items (index ∷ path) item e = e
 
 -- ---- elements that are filled
 
-pub filled : (rules : Rules) (parent child : List ℕ) (items : List Item) → All (λ place. wanted rules (Fill parent child) place ≡ []) (places items) ↔ AreFilled parent items
+pub filled : (rules : Rules) (parent child : List ℕ) (items : List Item) → All (λ place. wanted rules (Fill parent child) place ≡ []) (places items)
+    ↔ AreFilled parent items
 filled rules parent child items = (there, back)
   where
     there : All (λ place. wanted rules (Fill parent child) place ≡ []) (places items) → AreFilled parent items
@@ -60,7 +61,8 @@ filled rules parent child items = (there, back)
     back : AreFilled parent items → All (λ place. wanted rules (Fill parent child) place ≡ []) (places items)
     back h =
         at_all (λ place. wanted rules (Fill parent child) place ≡ []) items (
-          not_tested (is_named parent (root_of items) && is_childless (root_of items)) (InsertElement ([] ++ 0 ∷ []) child []) (with_children parent (root_of items) (h [] (root_of items) refl)),
+          not_tested (is_named parent (root_of items) && is_childless (root_of items)) (InsertElement ([] ++ 0 ∷ []) child [])
+              (with_children parent (root_of items) (h [] (root_of items) refl)),
           λ path item e. not_tested (is_named parent item && is_childless item) (InsertElement (path ++ 0 ∷ []) child [])
               (with_children parent item (h path item (or_root items path item e))),
         )
@@ -83,7 +85,8 @@ none_of true true c e = e
 none_of true false c e = refl
 none_of false b c e = refl
 
-pub not_empty : (rules : Rules) (name : List ℕ) (items : List Item) → All (λ place. wanted rules (RemoveEmpty name) place ≡ []) (places items) ↔ NoneIsEmpty name items
+pub not_empty : (rules : Rules) (name : List ℕ) (items : List Item) → All (λ place. wanted rules (RemoveEmpty name) place ≡ []) (places items)
+    ↔ NoneIsEmpty name items
 not_empty rules name items = (there, back)
   where
     there : All (λ place. wanted rules (RemoveEmpty name) place ≡ []) (places items) → NoneIsEmpty name items
@@ -117,7 +120,8 @@ pub have_child : (rules : Rules) (parent child : List ℕ) (items : List Item) �
     ↔ HaveChild parent child items
 have_child rules parent child items = (there, back)
   where
-    has : (path : List ℕ) (item : Item) → edit_if (is_named parent item && not (has_child child item)) (InsertElement (path ++ length (children_in item) ∷ []) child []) ≡ []
+    has : (path : List ℕ) (item : Item) → edit_if (is_named parent item && not (has_child child item))
+        (InsertElement (path ++ length (children_in item) ∷ []) child []) ≡ []
         → IsTrue (is_named parent item) → HasChild child item
     has path item e n =
         Any-from_list_any (is_named child) (children_in item) (both_hold (is_named parent item) (has_child child item) n
@@ -126,7 +130,8 @@ have_child rules parent child items = (there, back)
     there : All (λ place. wanted rules (Require parent child) place ≡ []) (places items) → HaveChild parent child items
     there h [] item e n =
         (let same : root_of items ≡ item = cc in
-        has [] item (subst (λ item. edit_if (is_named parent item && not (has_child child item)) (InsertElement ([] ++ length (children_in item) ∷ []) child []) ≡ []) same
+        has [] item (subst (λ item. edit_if (is_named parent item && not (has_child child item))
+        (InsertElement ([] ++ length (children_in item) ∷ []) child []) ≡ []) same
         (everywhere (λ place. wanted rules (Require parent child) place ≡ []) items h).0) n)
     there h (index ∷ path) item e n =
         has (index ∷ path) item ((everywhere (λ place. wanted rules (Require parent child) place ≡ []) items h).1 (index ∷ path) item e) n
@@ -150,12 +155,14 @@ joined_parts true true false e = absurd cc
 joined_parts true false c e = absurd cc
 joined_parts false b c e = absurd cc
 
-pub apart : (rules : Rules) (name : List ℕ) (items : List Item) → All (λ place. wanted rules (JoinNeighbours name) place ≡ []) (places items) ↔ AreApart name items
+pub apart : (rules : Rules) (name : List ℕ) (items : List Item) → All (λ place. wanted rules (JoinNeighbours name) place ≡ []) (places items)
+    ↔ AreApart name items
 apart rules name items = (there, back)
   where
     there : All (λ place. wanted rules (JoinNeighbours name) place ≡ []) (places items) → AreApart name items
     there h parent offset left right e f n m same =
-        let none = no_edit (option_map_or (λ left. joins name left right) (left_of items (parent ++ (offset + 1) ∷ [])) false) (Merge (parent ++ (offset + 1) ∷ []))
+        let none = no_edit (option_map_or (λ left. joins name left right) (left_of items (parent ++ (offset + 1) ∷ [])) false)
+        (Merge (parent ++ (offset + 1) ∷ []))
         ((everywhere (λ place. wanted rules (JoinNeighbours name) place ≡ []) items h).1 (parent ++ (offset + 1) ∷ []) right f) in
         let left_of_it = left_is items parent offset ∙ e in
         let joins_not : joins name left right ≡ false = sym (ap (λ o. option_map_or (λ left. joins name left right) o false) left_of_it) ∙ none in
@@ -174,10 +181,14 @@ apart rules name items = (there, back)
         go : (b : Bool) → joins name left item ≡ b → b ≡ false
         go true j =
             (let parts = joined_parts (is_named name left) (is_named name item) (same_attributes (attributes_of left) (attributes_of item)) j in
-            absurd (h at.parent at.offset left item at.there (sym (ap (λ p. item_at p items) at.here) ∙ e) parts.0 parts.1 (equal_attributes (attributes_of left) (attributes_of item) parts.2)))
+            absurd (h at.parent at.offset left item at.there (sym (ap (λ p. item_at p items) at.here) ∙ e) parts.0 parts.1
+            (equal_attributes (attributes_of left) (attributes_of item) parts.2)))
         go false j = refl
 
     back : AreApart name items → All (λ place. wanted rules (JoinNeighbours name) place ≡ []) (places items)
     back h =
-        at_all (λ place. wanted rules (JoinNeighbours name) place ≡ []) items
-        (refl, λ path item e. not_tested (option_map_or (λ left. joins name left item) (left_of items path) false) (Merge path) (wants_none path item (left_of items path) h e refl))
+        at_all (λ place. wanted rules (JoinNeighbours name) place ≡ []) items (
+          refl,
+          λ path item e. not_tested (option_map_or (λ left. joins name left item) (left_of items path) false) (Merge path)
+              (wants_none path item (left_of items path) h e refl),
+        )

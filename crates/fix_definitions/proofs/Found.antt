@@ -27,7 +27,8 @@ HoldsEverywhere P items = P (root_place items) × ((path : List ℕ) (item : Ite
 pub everywhere : (P : Place → Type 0) (items : List Item) → All P (places items) → HoldsEverywhere P items
 everywhere P items h = (
   All-head P (root_place items) (map (place_of items) (placed_items items)) h,
-  λ path item e. All-contains (λ placed. P (place_of items placed)) (placed_items items) (record { ancestors = ancestors_at path items; path = path; item = item })
+  λ path item e. All-contains (λ placed. P (place_of items placed)) (placed_items items)
+      (record { ancestors = ancestors_at path items; path = path; item = item })
       (of_each P (place_of items) (placed_items items) (All-tail P (root_place items) (map (place_of items) (placed_items items)) h))
       ((members_are_placed items (record { ancestors = ancestors_at path items; path = path; item = item })).1 (record { found = e; under = refl })),
 )
@@ -35,7 +36,8 @@ everywhere P items h = (
 pub at_all : (P : Place → Type 0) (items : List Item) → HoldsEverywhere P items → All P (places items)
 at_all P items h =
     All-cons P (root_place items) (map (place_of items) (placed_items items)) h.0
-    (each_of P (place_of items) (placed_items items) (all_contained (λ placed. P (place_of items placed)) (placed_items items) (λ placed c. found placed ((members_are_placed items placed).0 c))))
+    (each_of P (place_of items) (placed_items items)
+    (all_contained (λ placed. P (place_of items placed)) (placed_items items) (λ placed c. found placed ((members_are_placed items placed).0 c))))
   where
     found : (placed : Placed) → IsPlaced items placed → P (place_of items placed)
     found placed at =

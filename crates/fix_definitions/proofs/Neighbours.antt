@@ -60,7 +60,9 @@ names_same [] offset other items = refl
 names_same (index ∷ []) offset other items =
     λ i. option_map_or (λ item. item_name item ∷ option_map_or (λ inside. names_same [] offset other inside i) (inner item) []) (slice_get items index) []
 names_same (index ∷ next ∷ parent) offset other items =
-    λ i. option_map_or (λ item. item_name item ∷ option_map_or (λ inside. names_same (next ∷ parent) offset other inside i) (inner item) []) (slice_get items index) []
+    λ i. option_map_or (λ item. item_name item ∷ option_map_or (λ inside. names_same (next ∷ parent) offset other inside i) (inner item) [])
+    (slice_get items index) []
 
-pub ancestors_same : (parent : List ℕ) (offset other : ℕ) (items : List Item) → ancestors_at (parent ++ offset ∷ []) items ≡ ancestors_at (parent ++ other ∷ []) items
+pub ancestors_same : (parent : List ℕ) (offset other : ℕ) (items : List Item) → ancestors_at (parent ++ offset ∷ []) items
+    ≡ ancestors_at (parent ++ other ∷ []) items
 ancestors_same parent offset other items = ap (λ names. codes "$root" ∷ names) (names_same parent offset other items)

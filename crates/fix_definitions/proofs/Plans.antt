@@ -67,7 +67,8 @@ pub empty_map : {A B : Type 0} (f : A → B) (xs : List A) → map f xs ≡ [] �
 empty_map f [] e = refl
 empty_map f (x ∷ xs) e = absurd cc
 
-pub nothing_wanted : (rules : Rules) (fixer : StockFixer) (items : List Item) (markers : Markers) (selection : Selection) → (fixes rules fixer items markers selection ≡ [])
+pub nothing_wanted : (rules : Rules) (fixer : StockFixer) (items : List Item) (markers : Markers) (selection : Selection)
+    → (fixes rules fixer items markers selection ≡ [])
     ↔ (All (λ place. wanted rules fixer place ≡ []) (places items) × (selection_wanted rules fixer items selection ≡ []))
 nothing_wanted rules fixer items markers selection = (there, back)
   where

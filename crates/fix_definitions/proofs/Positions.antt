@@ -27,13 +27,16 @@ in_stands [] items h = absurd (h.0 refl)
 in_stands (offset ∷ []) items h = h.1
 in_stands (index ∷ next ∷ rest) items h = go (in_stands (next ∷ rest)) (slice_get items index) refl h.1
   where
-    inside : ((kids : List Item) → IsIn kids (next ∷ rest) → Stands (next ∷ rest) kids) → (item : Item) → slice_get items index ≡ Some item → (o : Option (List Item)) → inner item ≡ o
-        → IsSomeAnd (option_map length (option_and_then (children_at (parent_of (next ∷ rest))) o)) (λ count. offset_of (next ∷ rest) ≤ count) → Stands (index ∷ next ∷ rest) items
+    inside : ((kids : List Item) → IsIn kids (next ∷ rest) → Stands (next ∷ rest) kids) → (item : Item) → slice_get items index ≡ Some item
+        → (o : Option (List Item)) → inner item ≡ o
+        → IsSomeAnd (option_map length (option_and_then (children_at (parent_of (next ∷ rest))) o)) (λ count. offset_of (next ∷ rest) ≤ count)
+        → Stands (index ∷ next ∷ rest) items
     inside deeper item e None f h = absurd h
     inside deeper item e (Some kids) f h = (item, kids, e, f, deeper kids ((λ e. cc), h))
 
     go : ((kids : List Item) → IsIn kids (next ∷ rest) → Stands (next ∷ rest) kids) → (o : Option Item) → slice_get items index ≡ o
-        → IsSomeAnd (option_map length (option_and_then (λ item. option_and_then (children_at (parent_of (next ∷ rest))) (inner item)) o)) (λ count. offset_of (next ∷ rest) ≤ count)
+        → IsSomeAnd (option_map length (option_and_then (λ item. option_and_then (children_at (parent_of (next ∷ rest))) (inner item)) o))
+        (λ count. offset_of (next ∷ rest) ≤ count)
         → Stands (index ∷ next ∷ rest) items
     go deeper None e h = absurd h
     go deeper (Some item) e h = inside deeper item e (inner item) refl h
@@ -43,8 +46,10 @@ stands_in [] items h = absurd h
 stands_in (offset ∷ []) items h = ((λ e. cc), h)
 stands_in (index ∷ next ∷ rest) items h = (
   (λ e. cc),
-  subst (λ o. IsSomeAnd (option_map length (option_and_then (λ item. option_and_then (children_at (parent_of (next ∷ rest))) (inner item)) o)) (λ count. offset_of (next ∷ rest) ≤ count)) (sym h.2)
-      (subst (λ o. IsSomeAnd (option_map length (option_and_then (children_at (parent_of (next ∷ rest))) o)) (λ count. offset_of (next ∷ rest) ≤ count)) (sym h.3) (stands_in (next ∷ rest) h.1 h.4).1),
+  subst (λ o. IsSomeAnd (option_map length (option_and_then (λ item. option_and_then (children_at (parent_of (next ∷ rest))) (inner item)) o))
+      (λ count. offset_of (next ∷ rest) ≤ count)) (sym h.2)
+      (subst (λ o. IsSomeAnd (option_map length (option_and_then (children_at (parent_of (next ∷ rest))) o)) (λ count. offset_of (next ∷ rest) ≤ count))
+      (sym h.3) (stands_in (next ∷ rest) h.1 h.4).1),
 )
 
 stands-later : (place : ℕ) (rest : List ℕ) (item : Item) (items : List Item) → Stands (place ∷ rest) items → Stands (suc place ∷ rest) (item ∷ items)
@@ -96,7 +101,8 @@ mutual
         stands = deep.stands;
       }
 
-  found_among : (path : List ℕ) (offset : ℕ) (items : Items) (position : List ℕ) → Contains (positions_from path offset items) position → IsAmong path offset (list_of items) position
+  found_among : (path : List ℕ) (offset : ℕ) (items : Items) (position : List ℕ) → Contains (positions_from path offset items) position
+      → IsAmong path offset (list_of items) position
   found_among path offset none position h = here_among path offset [] position (only (path ++ offset ∷ []) position h)
   found_among path offset (more item items) position h =
       elim (Contains-append_cases ((path ++ offset ∷ []) ∷ []) (positions_in (path ++ offset ∷ []) item ++ positions_from path (offset + 1) items) position h) [
@@ -105,7 +111,8 @@ mutual
           | inl d ↦ (let inside = found_inside (path ++ offset ∷ []) item position d in record {
             place = 0;
             rest = inside.next ∷ inside.rest;
-            leads = inside.leads ∙ append_assoc path (offset ∷ []) (inside.next ∷ inside.rest) ∙ (let same : offset ≡ offset + 0 = omega arith in ap (λ n. path ++ n ∷ inside.next ∷ inside.rest) same);
+            leads = inside.leads ∙ append_assoc path (offset ∷ []) (inside.next ∷ inside.rest)
+                ∙ (let same : offset ≡ offset + 0 = omega arith in ap (λ n. path ++ n ∷ inside.next ∷ inside.rest) same);
             stands = (item, inside.kids, refl, inside.holds, inside.stands);
           })
           | inr d ↦ (let later = found_among path (offset + 1) items position d in record {
@@ -138,12 +145,14 @@ mutual
       let same : item ≡ h.0 = (let e = h.2 in cc) in
       subst (Contains (positions_from path offset (more item items)))
       (append_assoc path (offset ∷ []) (next ∷ rest) ∙ (let bare : offset ≡ offset + 0 = omega arith in ap (λ n. path ++ n ∷ next ∷ rest) bare))
-      (Contains-append_right ((path ++ offset ∷ []) ∷ []) (positions_in (path ++ offset ∷ []) item ++ positions_from path (offset + 1) items) ((path ++ offset ∷ []) ++ next ∷ rest)
+      (Contains-append_right ((path ++ offset ∷ []) ∷ []) (positions_in (path ++ offset ∷ []) item ++ positions_from path (offset + 1) items)
+      ((path ++ offset ∷ []) ++ next ∷ rest)
       (Contains-append_left (positions_in (path ++ offset ∷ []) item) (positions_from path (offset + 1) items) ((path ++ offset ∷ []) ++ next ∷ rest)
       (listed_inside (path ++ offset ∷ []) item next rest h.1 (ap inner same ∙ h.3) h.4)))
   listed_among path offset (more item items) (suc place) rest h =
       subst (λ n. Contains (positions_from path offset (more item items)) (path ++ n ∷ rest)) (omega arith)
-      (Contains-append_right ((path ++ offset ∷ []) ∷ []) (positions_in (path ++ offset ∷ []) item ++ positions_from path (offset + 1) items) (path ++ (offset + 1 + place) ∷ rest)
+      (Contains-append_right ((path ++ offset ∷ []) ∷ []) (positions_in (path ++ offset ∷ []) item ++ positions_from path (offset + 1) items)
+      (path ++ (offset + 1 + place) ∷ rest)
       (Contains-append_right (positions_in (path ++ offset ∷ []) item) (positions_from path (offset + 1) items) (path ++ (offset + 1 + place) ∷ rest)
       (listed_among path (offset + 1) items place rest (stands-before place rest item (list_of items) h))))
 
@@ -181,7 +190,8 @@ ahead path index later rest other less =
 no_pairs : {X : Type 0} (R : X → X → Type 0) → AllPairs R []
 no_pairs R i j d less short = absurd (omega (arith, less, short))
 
-pairs_joined : {X : Type 0} (R : X → X → Type 0) (xs ys : List X) → AllPairs R xs → AllPairs R ys → ((x : X) → Contains xs x → All (R x) ys) → AllPairs R (xs ++ ys)
+pairs_joined : {X : Type 0} (R : X → X → Type 0) (xs ys : List X) → AllPairs R xs → AllPairs R ys → ((x : X) → Contains xs x → All (R x) ys)
+    → AllPairs R (xs ++ ys)
 pairs_joined R [] ys h g across = g
 pairs_joined R (x ∷ xs) ys h g across =
     AllPairs-cons R x (xs ++ ys) (All-append (R x) xs ys (pairs-head R x xs h) (across x (first x xs)))
@@ -200,7 +210,8 @@ mutual
       AllPairs-cons Before (path ++ offset ∷ []) (inside ++ later)
       (All-append (Before (path ++ offset ∷ [])) inside later
       (all_contained (Before (path ++ offset ∷ [])) inside (λ position c.
-      let at = found_inside (path ++ offset ∷ []) item position c in ap (is_before (path ++ offset ∷ [])) at.leads ∙ above (path ++ offset ∷ []) at.next at.rest))
+      let at = found_inside (path ++ offset ∷ []) item position c in ap (is_before (path ++ offset ∷ [])) at.leads
+      ∙ above (path ++ offset ∷ []) at.next at.rest))
       (all_contained (Before (path ++ offset ∷ [])) later (λ position c.
       let at = found_among path (offset + 1) items position c in
       ap (is_before (path ++ offset ∷ [])) at.leads ∙ ahead path offset (offset + 1 + at.place) [] at.rest (omega arith))))
@@ -208,7 +219,8 @@ mutual
       (λ position c. all_contained (Before position) later (λ other d.
       let here = found_inside (path ++ offset ∷ []) item position c in
       let at = found_among path (offset + 1) items other d in
-      ap (λ p. is_before p other) (here.leads ∙ append_assoc path (offset ∷ []) (here.next ∷ here.rest)) ∙ ap (is_before (path ++ offset ∷ here.next ∷ here.rest)) at.leads
+      ap (λ p. is_before p other) (here.leads ∙ append_assoc path (offset ∷ []) (here.next ∷ here.rest))
+      ∙ ap (is_before (path ++ offset ∷ here.next ∷ here.rest)) at.leads
       ∙ ahead path offset (offset + 1 + at.place) (here.next ∷ here.rest) at.rest (omega arith))))
 
 pub in_order : (items : List Item) → AllPairs (λ position other. IsTrue (is_before position other)) (positions items)

@@ -38,7 +38,8 @@ module _ (rules : Rules) (items : List Item) (markers : Markers) (selection : Se
   remove_empty name = by_places rules (RemoveEmpty name) items markers selection (NoneIsEmpty name items) refl (not_empty rules name items)
 
   pub require : (parent child : List ℕ) → (fixes rules (Require parent child) items markers selection ≡ []) ↔ HaveChild parent child items
-  require parent child = by_places rules (Require parent child) items markers selection (HaveChild parent child items) refl (have_child rules parent child items)
+  require parent child = by_places rules (Require parent child) items markers selection (HaveChild parent child items) refl
+      (have_child rules parent child items)
 
   pub selection_place : (fixes rules SelectionPlace items markers selection ≡ []) ↔ IsWellSelected rules items selection.range
   selection_place =

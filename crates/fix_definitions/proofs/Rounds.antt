@@ -53,7 +53,8 @@ module _ (registered : List ℕ → Bool) (fixings : List Fixing) (rounds : ℕ)
   rests_in : (left : ℕ) (state made : State) → settled_in registered fixings rounds left state ≡ Ok made → ComesToRest registered fixings left state made
   rests_in zero state made e = go (first_plan 1 fixings state.document) refl e
     where
-      go : (plan : Option Plan) → first_plan 1 fixings state.document ≡ plan → at_end rounds state plan ≡ Ok made → ComesToRest registered fixings zero state made
+      go : (plan : Option Plan) → first_plan 1 fixings state.document ≡ plan → at_end rounds state plan ≡ Ok made
+          → ComesToRest registered fixings zero state made
       go None p e =
           (let same : state ≡ made = cc in record {
             made_rounds = 0;
@@ -65,7 +66,8 @@ module _ (registered : List ℕ → Bool) (fixings : List Fixing) (rounds : ℕ)
   rests_in (suc left) state made e = go (rests_in left) (first_plan 1 fixings state.document) refl e
     where
       on : ((next made : State) → settled_in registered fixings rounds left next ≡ Ok made → ComesToRest registered fixings left next made)
-          → (plan : Plan) (result : Result State EditFault) → first_plan 1 fixings state.document ≡ Some plan → all_performed registered 1 plan.edits state ≡ result
+          → (plan : Plan) (result : Result State EditFault) → first_plan 1 fixings state.document ≡ Some plan → all_performed registered 1 plan.edits state
+          ≡ result
           → after_plan plan.fixer result (settled_in registered fixings rounds left) ≡ Ok made → ComesToRest registered fixings (suc left) state made
       on rest plan (Ok next) p q e =
           (let later = rest next made e in record {
@@ -77,7 +79,8 @@ module _ (registered : List ℕ → Bool) (fixings : List Fixing) (rounds : ℕ)
       on rest plan (Err fault) p q e = absurd cc
 
       go : ((next made : State) → settled_in registered fixings rounds left next ≡ Ok made → ComesToRest registered fixings left next made)
-          → (plan : Option Plan) → first_plan 1 fixings state.document ≡ plan → round registered state (settled_in registered fixings rounds left) plan ≡ Ok made
+          → (plan : Option Plan) → first_plan 1 fixings state.document ≡ plan → round registered state (settled_in registered fixings rounds left) plan
+          ≡ Ok made
           → ComesToRest registered fixings (suc left) state made
       go rest None p e =
           (let same : state ≡ made = cc in record {
@@ -115,7 +118,8 @@ module _ (registered : List ℕ → Bool) (fixings : List Fixing) (rounds : ℕ)
     where
       on : ((next : State) (others fixer : ℕ) → settled_in registered fixings rounds left next ≡ Err (NotSettled others fixer)
           → (others ≡ rounds) × StaysRestless registered fixings left next fixer)
-          → (plan : Plan) (result : Result State EditFault) → first_plan 1 fixings state.document ≡ Some plan → all_performed registered 1 plan.edits state ≡ result
+          → (plan : Plan) (result : Result State EditFault) → first_plan 1 fixings state.document ≡ Some plan → all_performed registered 1 plan.edits state
+          ≡ result
           → after_plan plan.fixer result (settled_in registered fixings rounds left) ≡ Err (NotSettled others fixer)
           → (others ≡ rounds) × StaysRestless registered fixings (suc left) state fixer
       on rest plan (Ok next) p q e =
@@ -161,7 +165,8 @@ module _ (registered : List ℕ → Bool) (fixings : List Fixing) (rounds : ℕ)
     where
       on : ((next : State) (fixer : ℕ) (fault : EditFault) → settled_in registered fixings rounds left next ≡ Err (FixerRefused fixer fault)
           → IsRefused registered fixings left next fixer fault)
-          → (plan : Plan) (result : Result State EditFault) → first_plan 1 fixings state.document ≡ Some plan → all_performed registered 1 plan.edits state ≡ result
+          → (plan : Plan) (result : Result State EditFault) → first_plan 1 fixings state.document ≡ Some plan → all_performed registered 1 plan.edits state
+          ≡ result
           → after_plan plan.fixer result (settled_in registered fixings rounds left) ≡ Err (FixerRefused fixer fault)
           → IsRefused registered fixings (suc left) state fixer fault
       on rest plan (Ok next) p q e =
@@ -264,11 +269,21 @@ first_is document number (fixing ∷ fixings) plan e = go (first_is document (nu
         → (before : List Fixing) × (first : Fixing) × (behind : List Fixing) × (fixings ≡ before ++ first ∷ behind) × (plan.fixer ≡ number + 1 + length before)
         × IsSettled before document × (plan.edits ≡ plan_of first document) × (plan.edits ≢ []))
         → (edits : List Edit) → plan_of fixing document ≡ edits → option_or (plan_by number edits) (first_plan (number + 1) fixings document) ≡ Some plan
-        → (before : List Fixing) × (first : Fixing) × (behind : List Fixing) × (fixing ∷ fixings ≡ before ++ first ∷ behind) × (plan.fixer ≡ number + length before)
+        → (before : List Fixing) × (first : Fixing) × (behind : List Fixing) × (fixing ∷ fixings ≡ before ++ first ∷ behind)
+        × (plan.fixer ≡ number + length before)
         × IsSettled before document × (plan.edits ≡ plan_of first document) × (plan.edits ≢ [])
     go rest [] p e =
-        (let later = rest e in
-        (fixing ∷ later.0, later.1, later.2, ap (λ fs. fixing ∷ fs) later.3, later.4 ∙ omega arith, All-cons (Wants document) fixing later.0 p later.5, later.6, later.7))
+        (let later = rest e in (
+          fixing ∷ later.0,
+          later.1,
+          later.2,
+          ap (λ fs. fixing ∷ fs) later.3,
+          later.4
+              ∙ omega arith,
+          All-cons (Wants document) fixing later.0 p later.5,
+          later.6,
+          later.7,
+        ))
     go rest (edit ∷ edits) p e =
         (let same : record { fixer = number; edits = edit ∷ edits } ≡ plan = cc in (
           [],
@@ -323,7 +338,8 @@ first_plans fixings document plan = (there, back)
 module _ (registered : List ℕ → Bool) (fixings : List Fixing) (rounds : ℕ) where
   alike_in : (left : ℕ) (state other : State) → state.document ≡ other.document
       → document_settled (settled_in registered fixings rounds left state) ≡ document_settled (settled_in registered fixings rounds left other)
-  alike_in zero state other e = ap (λ document. document_settled (at_end rounds state (first_plan 1 fixings document))) e ∙ go (first_plan 1 fixings other.document)
+  alike_in zero state other e = ap (λ document. document_settled (at_end rounds state (first_plan 1 fixings document))) e
+      ∙ go (first_plan 1 fixings other.document)
     where
       go : (plan : Option Plan) → document_settled (at_end rounds state plan) ≡ document_settled (at_end rounds other plan)
       go None = ap Ok e
@@ -335,7 +351,8 @@ module _ (registered : List ℕ → Bool) (fixings : List Fixing) (rounds : ℕ)
       on : ((next another : State) → next.document ≡ another.document
           → document_settled (settled_in registered fixings rounds left next) ≡ document_settled (settled_in registered fixings rounds left another))
           → (fixer : ℕ) (result twin : Result State EditFault) → document_made result ≡ document_made twin
-          → document_settled (after_plan fixer result (settled_in registered fixings rounds left)) ≡ document_settled (after_plan fixer twin (settled_in registered fixings rounds left))
+          → document_settled (after_plan fixer result (settled_in registered fixings rounds left))
+          ≡ document_settled (after_plan fixer twin (settled_in registered fixings rounds left))
       on rest fixer (Ok next) (Ok another) h = (let same : next.document ≡ another.document = cc in rest next another same)
       on rest fixer (Ok next) (Err fault) h = absurd cc
       on rest fixer (Err fault) (Ok next) h = absurd cc
@@ -347,7 +364,8 @@ module _ (registered : List ℕ → Bool) (fixings : List Fixing) (rounds : ℕ)
           ≡ document_settled (round registered other (settled_in registered fixings rounds left) plan)
       go rest None = ap Ok e
       go rest (Some plan) =
-          on rest plan.fixer (all_performed registered 1 plan.edits state) (all_performed registered 1 plan.edits other) (alike registered 1 plan.edits state other e)
+          on rest plan.fixer (all_performed registered 1 plan.edits state) (all_performed registered 1 plan.edits other)
+          (alike registered 1 plan.edits state other e)
 
 pub reads_no_cells : (registered : List ℕ → Bool) (fixings : List Fixing) (rounds : ℕ) (state : State)
     → document_settled (settle registered fixings rounds state) ≡ settled registered fixings rounds state.document

@@ -25,7 +25,8 @@ module _ {X : Type 0} (test : X → Bool) where
   none_found [] e = All-nil (λ x. test x ≡ false)
   none_found (x ∷ xs) e = go (none_found xs) (test x) refl e
     where
-      go : (find test xs ≡ None → All (λ x. test x ≡ false) xs) → (b : Bool) → test x ≡ b → cond b (Some x) (find test xs) ≡ None → All (λ x. test x ≡ false) (x ∷ xs)
+      go : (find test xs ≡ None → All (λ x. test x ≡ false) xs) → (b : Bool) → test x ≡ b → cond b (Some x) (find test xs) ≡ None
+          → All (λ x. test x ≡ false) (x ∷ xs)
       go rest true t e = absurd cc
       go rest false t e = All-cons (λ x. test x ≡ false) x xs t (rest e)
 
@@ -83,14 +84,16 @@ module _ (rules : Rules) (items : List Item) where
       (found_none (λ position. may_hold_text rules items position && not_after start position) (positions items)
       (λ position c. fails (may_hold_text rules items position) (not_after start position) (h position ((members items position).0 c))))
       ∙ found_none (λ position. may_hold_text rules items position && is_before position start) (reverse (positions items))
-      (λ position c. fails (may_hold_text rules items position) (is_before position start) (h position ((members items position).0 (turned_back (positions items) position c))))
+      (λ position c. fails (may_hold_text rules items position) (is_before position start)
+      (h position ((members items position).0 (turned_back (positions items) position c))))
 
   round_one : (range : Range) → is_round_selectable rules items range ≡ true → IsRoundOne rules items range
   round_one range e =
       let parts = and_parts (same_position range.end (behind range.start)) (option_map_or (is_selectable_item rules) (item_at range.start items) false) e in
       go (item_at range.start items) refl parts.1 (same_numbers range.end (behind range.start) parts.0)
     where
-      go : (o : Option Item) → item_at range.start items ≡ o → option_map_or (is_selectable_item rules) o false ≡ true → range.end ≡ behind range.start → IsRoundOne rules items range
+      go : (o : Option Item) → item_at range.start items ≡ o → option_map_or (is_selectable_item rules) o false ≡ true → range.end ≡ behind range.start
+          → IsRoundOne rules items range
       go None f s same = absurd cc
       go (Some item) f s same = (item, f, s, same)
 
@@ -128,7 +131,8 @@ module _ (rules : Rules) (items : List Item) where
 
       back : IsWellSelected rules items range → selection_placed rules items range ≡ []
       back (inl text) =
-          chosen (or_left in_text (is_round_selectable rules items range) (and_from (may_hold_text rules items range.start) (may_hold_text rules items range.end) text.0 text.1))
+          chosen (or_left in_text (is_round_selectable rules items range)
+          (and_from (may_hold_text rules items range.start) (may_hold_text rules items range.end) text.0 text.1))
       back (inr (inl round)) = chosen (or_right in_text (is_round_selectable rules items range) (is_round_one range round))
       back (inr (inr none)) = go (may_be_selected rules items range)
         where

@@ -26,7 +26,8 @@ pub fn places_are_those_of_the_document()
 
 /// The plan of a stock fixer is empty exactly where no place wants anything of it, and the selection wants nothing.
 pub fn plans_are_empty_where_nothing_is_wanted()
-    ensures { (rules : Rules) (fixer : StockFixer) (items : List Item) (markers : Markers) (selection : Selection) → (fixes rules fixer items markers selection ≡ [])
+    ensures { (rules : Rules) (fixer : StockFixer) (items : List Item) (markers : Markers) (selection : Selection)
+        → (fixes rules fixer items markers selection ≡ [])
         ↔ (All (λ place. wanted rules fixer place ≡ []) (places items) × (selection_wanted rules fixer items selection ≡ [])) }
 {}
 
