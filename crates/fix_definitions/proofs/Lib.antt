@@ -1,0 +1,9 @@
+pub mod Plans
+pub mod Found
+pub mod Rounds
+pub mod Neighbours
+pub mod Elements
+pub mod Attributes
+pub mod Positions
+pub mod Selected
+pub mod Resting

@@ -1,0 +1,9 @@
+pub mod Places
+pub mod Wanted
+pub mod Selecting
+pub mod Fixes
+pub mod Settling
+pub mod Rounds
+pub mod Indents
+pub mod Sample
+pub mod AtRest
