@@ -3,7 +3,7 @@
 
 Usage: bench/survey.py [KIND..], at the top of the repository; without a kind each is listed. The kinds:
   clauses    clauses of public calls over 300 characters
-  lines      lines over 160 characters
+  lines      lines over 160 characters, but for attributes, which the formatter keeps on one line
   functions  functions over 40 lines, or with more than six parameters beside self
   words      words of specs/ without a sentence above them
   twice      statements of lemmas that stand in two files or more
@@ -52,7 +52,7 @@ def clauses():
 def lines():
     for path, text in files(".rt", ".antt"):
         for number, line in enumerate(text.split("\n"), 1):
-            if len(line) > MOST_LINE:
+            if len(line) > MOST_LINE and not line.lstrip().startswith(("#[", "#![")):
                 yield f"{path}:{number}: {len(line)} characters"
 
 
@@ -89,8 +89,8 @@ def statements():
     """The lemmas of proofs/, with their statements in one line."""
     for path, text in files(".antt"):
         if "proofs" in path.parts:
-            for match in re.finditer(r"^ *(pub )?([^\s:=]+) : (.+(?:\n +[→×⊎≡∙].*)*)", text, re.M):
-                yield path, line_of(text, match.start()), bool(match[1]), match[2], " ".join(match[3].split())
+            for match in re.finditer(r"^( *)(pub )?([^\s:=]+) : (.+(?:\n\1 +\S.*)*)", text, re.M):
+                yield path, line_of(text, match.start()), bool(match[2]), match[3], " ".join(match[4].split())
 
 
 def twice():

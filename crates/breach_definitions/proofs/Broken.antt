@@ -1,5 +1,6 @@
 -- The first breach of a document, in the words of what is found at its paths.
-use Rattle.std.proofs.Common.{◌≡◌, ℕ, List, [], ◌∷◌, ◌++◌, Bool, true, false, cond, not, ◌&&◌, ◌||◌, ◌==◌, nat_lt, IsTrue, All, Contains, AllPairs, Option, Some, None, option_map, map, find, filter, ◌↔◌, inl, inr, refl, sym, ap, ◌∙◌, subst, arith}
+use Rattle.std.proofs.Common.{◌≡◌, ℕ, List, [], ◌∷◌, ◌++◌, Bool, true, false, cond, not, ◌&&◌, ◌||◌, ◌==◌, nat_lt, IsTrue, All, Contains, AllPairs, Option}
+use Rattle.std.proofs.Common.{Some, None, option_map, map, find, filter, ◌↔◌, inl, inr, refl, sym, ap, ◌∙◌, subst, arith}
 use Rattle.std.specs.Option.{option_or}
 use Rattle.std.proofs.lemmas.Bool.Decides.{nat_tests}
 use Rattle.std.proofs.lemmas.List.Elements.{All-cons, All-nil, All-contains, All-head, All-tail, All-weaker, Contains-append_right, Contains-append_cases}
@@ -46,14 +47,16 @@ none_denied test (entry ∷ attributes) e = go (none_denied test attributes) (te
 all_passed : (test : List ℕ → Bool) (attributes : Attributes) → Passes test attributes → search_denied test attributes ≡ None
 all_passed test [] h = refl
 all_passed test (entry ∷ attributes) h =
-    ap (λ b. cond (not b) (Some entry.0) (search_denied test attributes)) (All-head (λ (entry : List ℕ × AttributeValue). test entry.0 ≡ true) entry attributes h)
+    ap (λ b. cond (not b) (Some entry.0) (search_denied test attributes))
+    (All-head (λ (entry : List ℕ × AttributeValue). test entry.0 ≡ true) entry attributes h)
     ∙ all_passed test attributes (All-tail (λ (entry : List ℕ × AttributeValue). test entry.0 ≡ true) entry attributes h)
 
 first_denied : (test : List ℕ → Bool) (attributes : Attributes) (key : List ℕ) → search_denied test attributes ≡ Some key → FirstDenied test attributes key
 first_denied test [] key e = cc
 first_denied test (entry ∷ attributes) key e = go (first_denied test attributes key) (test entry.0) refl
   where
-    go : (search_denied test attributes ≡ Some key → FirstDenied test attributes key) → (b : Bool) → test entry.0 ≡ b → FirstDenied test (entry ∷ attributes) key
+    go : (search_denied test attributes ≡ Some key → FirstDenied test attributes key) → (b : Bool) → test entry.0 ≡ b
+        → FirstDenied test (entry ∷ attributes) key
     go later true h =
         let rest = later (ap (λ b. cond (not b) (Some entry.0) (search_denied test attributes)) (sym h) ∙ e) in
         record {
@@ -75,10 +78,12 @@ first_denied test (entry ∷ attributes) key e = go (first_denied test attribute
           denied = ap test (sym same) ∙ h;
         }
 
-denied_first : (test : List ℕ → Bool) (before behind : Attributes) (key : List ℕ) (value : AttributeValue) → Passes test before → test key ≡ false → search_denied test (before ++ (key, value) ∷ behind) ≡ Some key
+denied_first : (test : List ℕ → Bool) (before behind : Attributes) (key : List ℕ) (value : AttributeValue) → Passes test before → test key ≡ false
+    → search_denied test (before ++ (key, value) ∷ behind) ≡ Some key
 denied_first test [] behind key value h d = ap (λ b. cond (not b) (Some key) (search_denied test behind)) d
 denied_first test (entry ∷ before) behind key value h d =
-    ap (λ b. cond (not b) (Some entry.0) (search_denied test (before ++ (key, value) ∷ behind))) (All-head (λ (entry : List ℕ × AttributeValue). test entry.0 ≡ true) entry before h)
+    ap (λ b. cond (not b) (Some entry.0) (search_denied test (before ++ (key, value) ∷ behind)))
+    (All-head (λ (entry : List ℕ × AttributeValue). test entry.0 ≡ true) entry before h)
     ∙ denied_first test before behind key value (All-tail (λ (entry : List ℕ × AttributeValue). test entry.0 ≡ true) entry before h) d
 
 -- what the rule of an item is, by the answers of the two tests
@@ -125,7 +130,8 @@ module _ (rules : Rules) (placed : Placed) where
   breaks rule e = breaks_by stands (search_denied test (attributes_of placed.item)) rule refl refl (sym broken ∙ e)
 
   pub broken_by : {rule : Rule} → Breaks rules placed.ancestors placed.item rule → broken_rule rules placed ≡ Some rule
-  broken_by (may_not_stand s) = broken ∙ ap (λ b. rule_by b (search_denied test (attributes_of placed.item)) (item_name placed.item) (last_name placed.ancestors)) s
+  broken_by (may_not_stand s) = broken
+      ∙ ap (λ b. rule_by b (search_denied test (attributes_of placed.item)) (item_name placed.item) (last_name placed.ancestors)) s
   broken_by (may_not_have before behind key value s parts passed denied) =
       broken ∙ ap (λ b. rule_by b (search_denied test (attributes_of placed.item)) (item_name placed.item) (last_name placed.ancestors)) s
       ∙ ap (λ attributes. option_map (λ key. Attribute key (item_name placed.item)) (search_denied test attributes)) parts
@@ -189,12 +195,14 @@ unbroken_from rules placed e = go (broken_rule rules placed) e
     go None f = refl
     go (Some rule) f = cc
 
-broken_from : (rules : Rules) (placed : Placed) (rule : Rule) (path : List ℕ) → breach_of rules placed ≡ Some (rule, path) → (broken_rule rules placed ≡ Some rule) × (placed.path ≡ path)
+broken_from : (rules : Rules) (placed : Placed) (rule : Rule) (path : List ℕ) → breach_of rules placed ≡ Some (rule, path)
+    → (broken_rule rules placed ≡ Some rule) × (placed.path ≡ path)
 broken_from rules placed rule path e = go (broken_rule rules placed) e
   where
     go : (found : Option Rule) → option_map (with_path placed.path) found ≡ Some (rule, path) → (found ≡ Some rule) × (placed.path ≡ path)
     go None f = cc
-    go (Some other) f = let same : with_path placed.path other ≡ with_path path rule = cc in (ap (λ (pair : Rule × List ℕ). Some pair.0) same, ap (λ (pair : Rule × List ℕ). pair.1) same)
+    go (Some other) f = let same : with_path placed.path other ≡ with_path path rule = cc
+        in (ap (λ (pair : Rule × List ℕ). Some pair.0) same, ap (λ (pair : Rule × List ℕ). pair.1) same)
 
 -- document order: of two paths one isn't after the other, and neither only where they are one
 not_after-total : (p q : List ℕ) → (not_after p q || not_after q p) ≡ true
@@ -240,10 +248,12 @@ pub obeys_iff : (rules : Rules) (items : List Item) → (breach rules items ≡ 
 unfolding breach
 obeys_iff rules items = (
   λ e path item found. allowed rules (placed_at items path item) (unbroken_from rules (placed_at items path item)
-      (All-contains (λ placed. breach_of rules placed ≡ None) (placed_items items) (placed_at items path item) (none_found (breach_of rules) (placed_items items) e) (contained items path item found))),
+      (All-contains (λ placed. breach_of rules placed ≡ None) (placed_items items) (placed_at items path item)
+      (none_found (breach_of rules) (placed_items items) e) (contained items path item found))),
   λ obeys. found_none (breach_of rules) (placed_items items) (all_contained (λ placed. breach_of rules placed ≡ None) (placed_items items) (λ placed c.
       let is = (members_are_placed items placed).0 c in
-      ap (option_map (with_path placed.path)) (unbroken rules placed (subst (λ names. IsAllowed rules names placed.item) (sym is.under) (obeys placed.path placed.item is.found))))),
+      ap (option_map (with_path placed.path))
+      (unbroken rules placed (subst (λ names. IsAllowed rules names placed.item) (sym is.under) (obeys placed.path placed.item is.found))))),
 )
 
 module _ (rules : Rules) (items : List Item) where
@@ -251,14 +261,19 @@ module _ (rules : Rules) (items : List Item) where
   allowed_at path item e = allowed rules (placed_at items path item) (unbroken_from rules (placed_at items path item) e)
 
   -- an item before the first that breaks a rule stands before it in the list
-  earlier_allowed : (before behind : List Placed) (x : Placed) → placed_items items ≡ before ++ x ∷ behind → All (λ placed. breach_of rules placed ≡ None) before
-      → (other : List ℕ) (earlier : Item) → item_at other items ≡ Some earlier → IsTrue (is_before other x.path) → IsAllowed rules (ancestors_at other items) earlier
+  earlier_allowed : (before behind : List Placed) (x : Placed) → placed_items items ≡ before ++ x ∷ behind
+      → All (λ placed. breach_of rules placed ≡ None) before
+      → (other : List ℕ) (earlier : Item) → item_at other items ≡ Some earlier → IsTrue (is_before other x.path)
+      → IsAllowed rules (ancestors_at other items) earlier
   earlier_allowed before behind x parts nothing other earlier found less =
-      elim (Contains-append_cases before (x ∷ behind) (placed_at items other earlier) (subst (λ xs. Contains xs (placed_at items other earlier)) parts (contained items other earlier found))) [
+      elim (Contains-append_cases before (x ∷ behind) (placed_at items other earlier)
+      (subst (λ xs. Contains xs (placed_at items other earlier)) parts (contained items other earlier found))) [
         | inl c ↦ allowed_at other earlier (All-contains (λ placed. breach_of rules placed ≡ None) before (placed_at items other earlier) nothing c)
         | inr c ↦ absurd (elim (Contains-append_cases (x ∷ []) behind (placed_at items other earlier) c) [
-          | inl d ↦ (let same = ap (λ placed. placed.path) (only x (placed_at items other earlier) d) in not_before_itself x.path (subst (λ p. IsTrue (is_before p x.path)) (sym same) less))
-          | inr d ↦ (let ordered = pairs-head Earlier x behind (pairs-behind Earlier before (x ∷ behind) (subst (AllPairs Earlier) parts (members_in_order items))) in
+          | inl d ↦ (let same = ap (λ placed. placed.path) (only x (placed_at items other earlier) d)
+              in not_before_itself x.path (subst (λ p. IsTrue (is_before p x.path)) (sym same) less))
+          | inr d ↦ (let ordered = pairs-head Earlier x behind
+              (pairs-behind Earlier before (x ∷ behind) (subst (AllPairs Earlier) parts (members_in_order items))) in
               not_both other x.path less (All-contains (Earlier x) behind (placed_at items other earlier) ordered d))
         ])
       ]
@@ -268,7 +283,9 @@ module _ (rules : Rules) (items : List Item) where
   first_breach rule path e =
       let found = found_first (breach_of rules) (placed_items items) (with_path path rule) e in
       let there = broken_from rules found.x rule path found.there in
-      let is = (members_are_placed items found.x).0 (subst (λ xs. Contains xs found.x) (sym found.parts) (Contains-append_right found.before (found.x ∷ found.behind) found.x (first found.x found.behind))) in
+      let is = (members_are_placed items found.x).0
+      (subst (λ xs. Contains xs found.x) (sym found.parts)
+      (Contains-append_right found.before (found.x ∷ found.behind) found.x (first found.x found.behind))) in
       subst (IsFirstBreach rules items rule) there.1 (record {
         item = found.x.item;
         found = is.found;
@@ -277,18 +294,24 @@ module _ (rules : Rules) (items : List Item) where
       })
 
   -- what is allowed breaks nothing
-  unbreakable : (path : List ℕ) (item : Item) (rule : Rule) → IsAllowed rules (ancestors_at path items) item → Breaks rules (ancestors_at path items) item rule → ⊥
-  unbreakable path item rule fine breaking = let e = sym (unbroken rules (placed_at items path item) fine) ∙ broken_by rules (placed_at items path item) breaking in cc
+  unbreakable : (path : List ℕ) (item : Item) (rule : Rule) → IsAllowed rules (ancestors_at path items) item
+      → Breaks rules (ancestors_at path items) item rule → ⊥
+  unbreakable path item rule fine breaking = let e = sym (unbroken rules (placed_at items path item) fine)
+      ∙ broken_by rules (placed_at items path item) breaking in cc
 
   -- both first: one path, one rule
-  same_first : (rule other : Rule) (path place : List ℕ) → IsFirstBreach rules items rule path → IsFirstBreach rules items other place → with_path place other ≡ with_path path rule
+  same_first : (rule other : Rule) (path place : List ℕ) → IsFirstBreach rules items rule path → IsFirstBreach rules items other place
+      → with_path place other ≡ with_path path rule
   same_first rule other path place one two = go (not_after path place) (not_after place path) refl refl
     where
-      at_one : (p : List ℕ) (item : Item) → p ≡ path → item_at p items ≡ Some item → Breaks rules (ancestors_at p items) item other → with_path p other ≡ with_path path rule
+      at_one : (p : List ℕ) (item : Item) → p ≡ path → item_at p items ≡ Some item → Breaks rules (ancestors_at p items) item other
+          → with_path p other ≡ with_path path rule
       at_one p item e found breaking =
           let same : one.item ≡ item = (let f = sym one.found ∙ ap (λ q. item_at q items) (sym e) ∙ found in cc) in
-          let rules_same : rule ≡ other = (let f = sym (broken_by rules (placed_at items path one.item) one.breaks) ∙ broken_by rules (placed_at items path one.item)
-          (subst (λ i. Breaks rules (ancestors_at path items) i other) (sym same) (subst (λ q. Breaks rules (ancestors_at q items) item other) e breaking)) in cc) in
+          let rules_same : rule ≡ other = (let f = sym (broken_by rules (placed_at items path one.item) one.breaks)
+          ∙ broken_by rules (placed_at items path one.item)
+          (subst (λ i. Breaks rules (ancestors_at path items) i other) (sym same)
+          (subst (λ q. Breaks rules (ancestors_at q items) item other) e breaking)) in cc) in
           ap (with_path p) (sym rules_same) ∙ ap (λ q. with_path q rule) e
 
       go : (a b : Bool) → not_after path place ≡ a → not_after place path ≡ b → with_path place other ≡ with_path path rule
@@ -304,11 +327,13 @@ module _ (rules : Rules) (items : List Item) where
       go first (Some (other, place)) e = ap Some (same_first rule other path place first (first_breach other place e))
 
 -- what gives nothing may be left out
-first_some-filter : {A B : Type 0} (f : A → Option B) (test : A → Bool) (xs : List A) → All (λ x. test x ≡ false → f x ≡ None) xs → first_some f (filter test xs) ≡ first_some f xs
+first_some-filter : {A B : Type 0} (f : A → Option B) (test : A → Bool) (xs : List A) → All (λ x. test x ≡ false → f x ≡ None) xs
+    → first_some f (filter test xs) ≡ first_some f xs
 first_some-filter f test [] nothing = refl
 first_some-filter f test (x ∷ xs) nothing = go (first_some-filter f test xs (All-tail (λ x. test x ≡ false → f x ≡ None) x xs nothing)) (test x) refl
   where
-    go : first_some f (filter test xs) ≡ first_some f xs → (b : Bool) → test x ≡ b → first_some f (cond (test x) (x ∷ filter test xs) (filter test xs)) ≡ option_or (f x) (first_some f xs)
+    go : first_some f (filter test xs) ≡ first_some f xs → (b : Bool) → test x ≡ b → first_some f (cond (test x) (x ∷ filter test xs) (filter test xs))
+        ≡ option_or (f x) (first_some f xs)
     go rest true e = ap (λ b. first_some f (cond b (x ∷ filter test xs) (filter test xs))) e ∙ ap (option_or (f x)) rest
     go rest false e =
         ap (λ b. first_some f (cond b (x ∷ filter test xs) (filter test xs))) e ∙ rest
@@ -318,5 +343,6 @@ pub enough_listed : (rules : Rules) (items : List Item) (spots : List Spot) → 
 unfolding breach breach_at
 enough_listed rules items spots others =
     first_some-filter (breach_of rules) (is_listed spots) (placed_items items)
-    (All-weaker (λ placed. is_listed spots placed ≡ false → IsAllowed rules placed.ancestors placed.item) (λ placed. is_listed spots placed ≡ false → breach_of rules placed ≡ None)
+    (All-weaker (λ placed. is_listed spots placed ≡ false → IsAllowed rules placed.ancestors placed.item) (λ placed. is_listed spots placed ≡ false
+    → breach_of rules placed ≡ None)
     (λ placed h e. ap (option_map (with_path placed.path)) (unbroken rules placed (h e))) (placed_items items) others)

@@ -1,8 +1,10 @@
 -- The items of a document with their paths are exactly those that are found at paths, in document order.
-use Rattle.std.proofs.Common.{◌≡◌, ℕ, zero, suc, ◌+◌, ◌<◌, List, [], ◌∷◌, ◌++◌, Bool, true, ◌&&◌, ◌||◌, ◌==◌, nat_lt, not, IsTrue, All, Contains, AllPairs, Option, Some, None, codes, ◌↔◌, inl, inr, refl, sym, ap, ◌∙◌, subst, arith, append_assoc, append-nil, option_and_then, get_or}
+use Rattle.std.proofs.Common.{◌≡◌, ℕ, zero, suc, ◌+◌, ◌<◌, List, [], ◌∷◌, ◌++◌, Bool, true, ◌&&◌, ◌||◌, ◌==◌, nat_lt, not, IsTrue, All, Contains, AllPairs}
+use Rattle.std.proofs.Common.{Option, Some, None, codes, ◌↔◌, inl, inr, refl, sym, ap, ◌∙◌, subst, arith, append_assoc, append-nil, option_and_then, get_or}
 use Rattle.std.proofs.lemmas.Bool.Decides.{nat_tests}
 use Rattle.std.specs.Option.{option_map_or}
-use Rattle.std.proofs.lemmas.List.Elements.{All-nil, All-append, Contains-get_or, Contains-push_cases, Contains-append_left, Contains-append_right, Contains-append_cases}
+use Rattle.std.proofs.lemmas.List.Elements.{All-nil, All-append, Contains-get_or, Contains-push_cases, Contains-append_left, Contains-append_right}
+use Rattle.std.proofs.lemmas.List.Elements.{Contains-append_cases}
 use Rattle.item_definitions.specs.Item.{Item, Items, character, element, none, more, inner, list_of, items_of}
 use Rattle.item_definitions.specs.Children.{item_at}
 use Rattle.item_definitions.specs.Position.{is_before, not_after}
@@ -66,13 +68,16 @@ record IsAmongItems (names : List (List ℕ)) (path : List ℕ) (index : ℕ) (i
   under : placed.ancestors ≡ names ++ names_on (place ∷ rest) items
 
 itself : (names : List (List ℕ)) (path : List ℕ) (item : Item) (placed : Placed) → standing names path item ≡ placed → IsInItem names path item placed
-itself names path item placed e = subst (IsInItem names path item) e (record { rest = []; leads = sym (append-nil path); found = refl; under = sym (append-nil names) })
+itself names path item placed e = subst (IsInItem names path item) e
+    (record { rest = []; leads = sym (append-nil path); found = refl; under = sym (append-nil names) })
 
 mutual
-  found_in_item : (names : List (List ℕ)) (path : List ℕ) (item : Item) (placed : Placed) → Contains (placed_item names path item) placed → IsInItem names path item placed
+  found_in_item : (names : List (List ℕ)) (path : List ℕ) (item : Item) (placed : Placed) → Contains (placed_item names path item) placed
+      → IsInItem names path item placed
   found_in_item names path (character scalar attributes) placed h = itself names path (character scalar attributes) placed (only _ placed h)
   found_in_item names path (element id name attributes children) placed h =
-      elim (Contains-append_cases (standing names path (element id name attributes children) ∷ []) (placed_inner (names ++ name ∷ []) path 0 children) placed h) [
+      elim (Contains-append_cases (standing names path (element id name attributes children) ∷ []) (placed_inner (names ++ name ∷ []) path 0 children)
+      placed h) [
         | inl c ↦ itself names path (element id name attributes children) placed (only _ placed c)
         | inr c ↦ (let deep = found_among (names ++ name ∷ []) path 0 children placed c in record {
           rest = deep.place ∷ deep.rest;
@@ -82,7 +87,8 @@ mutual
         })
       ]
 
-  found_among : (names : List (List ℕ)) (path : List ℕ) (index : ℕ) (items : Items) (placed : Placed) → Contains (placed_inner names path index items) placed → IsAmongItems names path index (list_of items) placed
+  found_among : (names : List (List ℕ)) (path : List ℕ) (index : ℕ) (items : Items) (placed : Placed)
+      → Contains (placed_inner names path index items) placed → IsAmongItems names path index (list_of items) placed
   found_among names path index none placed h = absurd (no_element placed h)
   found_among names path index (more item items) placed h =
       elim (Contains-append_cases (placed_item names (path ++ index ∷ []) item) (placed_inner names path (index + 1) items) placed h) [
@@ -115,7 +121,8 @@ same_placed names names' path path' item item' e f g =
     ap (λ ns. standing ns path item) e ∙ ap (λ p. standing names' p item) f ∙ ap (standing names' path') g
 
 mutual
-  listed_in_item : (names : List (List ℕ)) (path : List ℕ) (item : Item) (rest : List ℕ) (found : Item) → item_in rest item ≡ Some found → Contains (placed_item names path item) (placed_in names path item rest found)
+  listed_in_item : (names : List (List ℕ)) (path : List ℕ) (item : Item) (rest : List ℕ) (found : Item) → item_in rest item ≡ Some found
+      → Contains (placed_item names path item) (placed_in names path item rest found)
   listed_in_item names path (character scalar attributes) [] found e =
       subst (Contains (placed_item names path (character scalar attributes)))
       (same_placed names (names ++ []) path (path ++ []) (character scalar attributes) found (sym (append-nil names)) (sym (append-nil path)) cc)
@@ -127,23 +134,31 @@ mutual
       (first _ (placed_inner (names ++ name ∷ []) path 0 children))
   listed_in_item names path (element id name attributes children) (index ∷ rest) found e =
       subst (Contains (placed_item names path (element id name attributes children)))
-      (same_placed ((names ++ name ∷ []) ++ names_on (index ∷ rest) (list_of children)) (names ++ names_in (index ∷ rest) (element id name attributes children)) (path ++ (0 + index) ∷ rest) (path ++ index ∷ rest) found found
-      (append_assoc names (name ∷ []) (names_on (index ∷ rest) (list_of children))) (let same : 0 + index ≡ index = omega arith in ap (λ n. path ++ n ∷ rest) same) refl)
-      (Contains-append_right (standing names path (element id name attributes children) ∷ []) (placed_inner (names ++ name ∷ []) path 0 children) _ (listed_among (names ++ name ∷ []) path 0 children index rest found e))
+      (same_placed ((names ++ name ∷ []) ++ names_on (index ∷ rest) (list_of children))
+      (names ++ names_in (index ∷ rest) (element id name attributes children)) (path ++ (0 + index) ∷ rest) (path ++ index ∷ rest) found found
+      (append_assoc names (name ∷ []) (names_on (index ∷ rest) (list_of children))) (let same : 0 + index ≡ index = omega arith
+      in ap (λ n. path ++ n ∷ rest) same) refl)
+      (Contains-append_right (standing names path (element id name attributes children) ∷ []) (placed_inner (names ++ name ∷ []) path 0 children) _
+      (listed_among (names ++ name ∷ []) path 0 children index rest found e))
 
-  listed_among : (names : List (List ℕ)) (path : List ℕ) (index : ℕ) (items : Items) (place : ℕ) (rest : List ℕ) (found : Item) → item_at (place ∷ rest) (list_of items) ≡ Some found
+  listed_among : (names : List (List ℕ)) (path : List ℕ) (index : ℕ) (items : Items) (place : ℕ) (rest : List ℕ) (found : Item)
+      → item_at (place ∷ rest) (list_of items) ≡ Some found
       → Contains (placed_inner names path index items) (placed_among names path index (list_of items) place rest found)
   listed_among names path index none place rest found e = absurd (let n = sym (item-nowhere place rest) ∙ e in cc)
   listed_among names path index (more item items) zero rest found e =
       subst (Contains (placed_inner names path index (more item items)))
-      (same_placed (names ++ names_in rest item) (names ++ names_on (0 ∷ rest) (item ∷ list_of items)) ((path ++ index ∷ []) ++ rest) (path ++ (index + 0) ∷ rest) found found
-      (ap (λ ns. names ++ ns) (sym (names-first rest item (list_of items)))) (append_assoc path (index ∷ []) rest ∙ (let same : index ≡ index + 0 = omega arith in ap (λ n. path ++ n ∷ rest) same)) refl)
+      (same_placed (names ++ names_in rest item) (names ++ names_on (0 ∷ rest) (item ∷ list_of items)) ((path ++ index ∷ []) ++ rest)
+      (path ++ (index + 0) ∷ rest) found found
+      (ap (λ ns. names ++ ns) (sym (names-first rest item (list_of items)))) (append_assoc path (index ∷ []) rest
+      ∙ (let same : index ≡ index + 0 = omega arith in ap (λ n. path ++ n ∷ rest) same)) refl)
       (Contains-append_left (placed_item names (path ++ index ∷ []) item) (placed_inner names path (index + 1) items) _
       (listed_in_item names (path ++ index ∷ []) item rest found (sym (item-first rest item (list_of items)) ∙ e)))
   listed_among names path index (more item items) (suc place) rest found e =
       subst (Contains (placed_inner names path index (more item items)))
-      (same_placed (names ++ names_on (place ∷ rest) (list_of items)) (names ++ names_on (suc place ∷ rest) (item ∷ list_of items)) (path ++ (index + 1 + place) ∷ rest) (path ++ (index + suc place) ∷ rest) found found
-      (ap (λ ns. names ++ ns) (sym (names-later place rest item (list_of items)))) (let same : index + 1 + place ≡ index + suc place = omega arith in ap (λ n. path ++ n ∷ rest) same) refl)
+      (same_placed (names ++ names_on (place ∷ rest) (list_of items)) (names ++ names_on (suc place ∷ rest) (item ∷ list_of items))
+      (path ++ (index + 1 + place) ∷ rest) (path ++ (index + suc place) ∷ rest) found found
+      (ap (λ ns. names ++ ns) (sym (names-later place rest item (list_of items)))) (let same : index + 1 + place ≡ index + suc place = omega arith
+      in ap (λ n. path ++ n ∷ rest) same) refl)
       (Contains-append_right (placed_item names (path ++ index ∷ []) item) (placed_inner names path (index + 1) items) _
       (listed_among names path (index + 1) items place rest found (sym (item-later place rest item (list_of items)) ∙ e)))
 
@@ -159,15 +174,19 @@ members_are_placed items placed = (there, back)
         let at = found_among (codes "$root" ∷ []) [] 0 (items_of items) placed h in
         let same = list_of-items_of items in
         record {
-          found = ap (λ p. item_at p items) at.leads ∙ (let bare : 0 + at.place ≡ at.place = omega arith in ap (λ n. item_at (n ∷ at.rest) items) bare) ∙ sym (ap (item_at (at.place ∷ at.rest)) same) ∙ at.found;
-          under = at.under ∙ ap (λ xs. codes "$root" ∷ names_on (at.place ∷ at.rest) xs) same ∙ (let bare : at.place ≡ 0 + at.place = omega arith in ap (λ n. ancestors_at (n ∷ at.rest) items) bare) ∙ sym (ap (λ p. ancestors_at p items) at.leads);
+          found = ap (λ p. item_at p items) at.leads ∙ (let bare : 0 + at.place ≡ at.place = omega arith in ap (λ n. item_at (n ∷ at.rest) items) bare)
+              ∙ sym (ap (item_at (at.place ∷ at.rest)) same) ∙ at.found;
+          under = at.under ∙ ap (λ xs. codes "$root" ∷ names_on (at.place ∷ at.rest) xs) same
+              ∙ (let bare : at.place ≡ 0 + at.place = omega arith in ap (λ n. ancestors_at (n ∷ at.rest) items) bare)
+              ∙ sym (ap (λ p. ancestors_at p items) at.leads);
         }
 
     listed : (path : List ℕ) → item_at path items ≡ Some placed.item → Contains (placed_items items) (standing (ancestors_at path items) path placed.item)
     listed [] e = cc
     listed (index ∷ rest) e =
         let same = list_of-items_of items in
-        subst (Contains (placed_items items)) (ap (λ xs. placed_among (codes "$root" ∷ []) [] 0 xs index rest placed.item) same ∙ (let bare : 0 + index ≡ index = omega arith in ap (λ n. standing (ancestors_at (index ∷ rest) items) (n ∷ rest) placed.item) bare))
+        subst (Contains (placed_items items)) (ap (λ xs. placed_among (codes "$root" ∷ []) [] 0 xs index rest placed.item) same
+        ∙ (let bare : 0 + index ≡ index = omega arith in ap (λ n. standing (ancestors_at (index ∷ rest) items) (n ∷ rest) placed.item) bare))
         (listed_among (codes "$root" ∷ []) [] 0 (items_of items) index rest placed.item (ap (item_at (index ∷ rest)) same ∙ e))
 
     back : IsPlaced items placed → Contains (placed_items items) placed
@@ -218,7 +237,8 @@ before path index later rest other less =
 
 mutual
   order_in_item : (names : List (List ℕ)) (path : List ℕ) (item : Item) → AllPairs Earlier (placed_item names path item)
-  order_in_item names path (character scalar attributes) = pairs-cons Earlier (standing names path (character scalar attributes)) [] (All-nil (Earlier (standing names path (character scalar attributes)))) (pairs-nil Earlier)
+  order_in_item names path (character scalar attributes) = pairs-cons Earlier (standing names path (character scalar attributes)) []
+      (All-nil (Earlier (standing names path (character scalar attributes)))) (pairs-nil Earlier)
   order_in_item names path (element id name attributes children) =
       pairs-cons Earlier (standing names path (element id name attributes children)) (placed_inner (names ++ name ∷ []) path 0 children)
       (all_contained (Earlier (standing names path (element id name attributes children))) (placed_inner (names ++ name ∷ []) path 0 children) (λ placed c.
@@ -228,7 +248,8 @@ mutual
   order_among : (names : List (List ℕ)) (path : List ℕ) (index : ℕ) (items : Items) → AllPairs Earlier (placed_inner names path index items)
   order_among names path index none = pairs-nil Earlier
   order_among names path index (more item items) =
-      pairs-append Earlier (placed_item names (path ++ index ∷ []) item) (placed_inner names path (index + 1) items) (order_in_item names (path ++ index ∷ []) item) (order_among names path (index + 1) items)
+      pairs-append Earlier (placed_item names (path ++ index ∷ []) item) (placed_inner names path (index + 1) items)
+      (order_in_item names (path ++ index ∷ []) item) (order_among names path (index + 1) items)
       (λ placed c. all_contained (Earlier placed) (placed_inner names path (index + 1) items) (λ other d.
       let here = found_in_item names (path ++ index ∷ []) item placed c in
       let at = found_among names path (index + 1) items other d in

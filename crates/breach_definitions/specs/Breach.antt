@@ -22,7 +22,8 @@ abbrev mutual
   -- an item and all that is in it, in document order: an element stands before its items
   pub placed_item : List (List ℕ) → List ℕ → Item → List Placed
   placed_item ancestors path (character scalar attributes) = record { ancestors = ancestors; path = path; item = character scalar attributes } ∷ []
-  placed_item ancestors path (element id name attributes children) = record { ancestors = ancestors; path = path; item = element id name attributes children } ∷ placed_inner (ancestors ++ name ∷ []) path 0 children
+  placed_item ancestors path (element id name attributes children) =
+      record { ancestors = ancestors; path = path; item = element id name attributes children } ∷ placed_inner (ancestors ++ name ∷ []) path 0 children
 
   -- the items of a list from this index on, each with all that is in it
   pub placed_inner : List (List ℕ) → List ℕ → ℕ → Items → List Placed
@@ -41,7 +42,8 @@ last_name (name ∷ next ∷ names) = last_name (next ∷ names)
 
 -- the first key, in order, that an item may not have there
 abbrev pub denied_key : Rules → Placed → Option (List ℕ)
-denied_key rules placed = find (λ key. not (check_attribute rules placed.ancestors (item_name placed.item) key)) (map (λ entry. entry.0) (attributes_of placed.item))
+denied_key rules placed = find (λ key. not (check_attribute rules placed.ancestors (item_name placed.item) key))
+    (map (λ entry. entry.0) (attributes_of placed.item))
 
 -- the rule that an item breaks first: that it may not stand there, or that it may not have a key
 unfoldable pub broken_rule : Rules → Placed → Option Rule

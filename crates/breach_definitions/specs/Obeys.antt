@@ -26,7 +26,8 @@ ancestors_at path items = codes "$root" ∷ names_on path items
 
 -- an item may have these attributes behind these ancestors: the schema allows each key
 abbrev pub MayHaveAll : Rules → List (List ℕ) → Item → Attributes → Type 0
-MayHaveAll rules ancestors item attributes = All (λ (entry : List ℕ × AttributeValue). IsTrue (check_attribute rules ancestors (item_name item) entry.0)) attributes
+MayHaveAll rules ancestors item attributes =
+    All (λ (entry : List ℕ × AttributeValue). IsTrue (check_attribute rules ancestors (item_name item) entry.0)) attributes
 
 -- an item may stand behind these ancestors, and may have each of its keys there
 pub record IsAllowed (rules : Rules) (ancestors : List (List ℕ)) (item : Item) : Type 0 where

@@ -25,7 +25,8 @@ pub fn documents_without_a_breach_obey()
 /// The breach is the first item, in document order, that breaks a rule: each item before it is allowed where it stands.
 #[tactic(auto)]
 pub fn breach_is_the_first()
-    ensures { (rules : Rules) (items : List Item) (rule : TheRule) (path : List ℕ) → (breach rules items ≡ Some (rule, path)) ↔ IsFirstBreach rules items rule path }
+    ensures { (rules : Rules) (items : List Item) (rule : TheRule) (path : List ℕ) → (breach rules items ≡ Some (rule, path))
+        ↔ IsFirstBreach rules items rule path }
 {}
 
 /// Where each item of the document that isn't listed is allowed, the first breach among the listed items is the first of all.

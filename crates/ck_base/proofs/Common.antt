@@ -1,5 +1,6 @@
 -- What joined tests, tests of numbers and parts of lists say: lemmas that stand under many proofs.
-use Rattle.std.proofs.Common.{◌≡◌, ℕ, zero, suc, ◌+◌, ◌<◌, ◌≤◌, ◌==◌, nat_lt, nat_le, arith, List, [], ◌∷◌, ◌++◌, take, drop, Bool, true, false, not, ◌&&◌, ◌||◌, T, refl, sym, ap, ◌∙◌, subst}
+use Rattle.std.proofs.Common.{◌≡◌, ℕ, zero, suc, ◌+◌, ◌<◌, ◌≤◌, ◌==◌, nat_lt, nat_le, arith, List, [], ◌∷◌, ◌++◌, take, drop, Bool, true, false, not, ◌&&◌}
+use Rattle.std.proofs.Common.{◌||◌, T, refl, sym, ap, ◌∙◌, subst}
 use Rattle.std.proofs.lemmas.Bool.Decides.{nat_tests}
 use Rattle.std.proofs.lemmas.List.{take-append-drop}
 use Rattle.std.specs.Ordering.{is_lt}
@@ -93,7 +94,8 @@ module _ {X : Type 0} where
   pub drop_add : (offset count : ℕ) (xs : List X) → drop (offset + count) xs ≡ drop count (drop offset xs)
   drop_add zero count xs = (let e : 0 + count ≡ count = omega arith in ap (λ n. drop n xs) e)
   drop_add (suc offset) count [] = drop_none (suc offset + count) ∙ sym (drop_none count)
-  drop_add (suc offset) count (x ∷ xs) = (let e : suc offset + count ≡ suc (offset + count) = omega arith in ap (λ n. drop n (x ∷ xs)) e ∙ drop_add offset count xs)
+  drop_add (suc offset) count (x ∷ xs) = (let e : suc offset + count ≡ suc (offset + count) = omega arith in ap (λ n. drop n (x ∷ xs)) e
+      ∙ drop_add offset count xs)
 
   -- a list in three: what is before a run, the run, and what is behind it
   pub in_three : (offset count : ℕ) (xs : List X) → take offset xs ++ (take count (drop offset xs) ++ drop (offset + count) xs) ≡ xs

@@ -35,8 +35,10 @@ module _ {V : Type 0} where
   -- a write changes what its name has, and no other
   pub written : (key : List ℕ) (value : V) (entries : List (List ℕ × V)) → ChangesOnly entries (with_value key value entries) key (Some value)
   written key value entries = record {
-    changed = find-put name_cmp nat_list_cmp_total key key value entries ∙ ap (λ o. cond (is_eq o) (Some value) (value_of key entries)) (tied_itself nat_list_cmp_total key);
-    others = λ other d. find-put name_cmp nat_list_cmp_total other key value entries ∙ ap (λ b. cond b (Some value) (value_of other entries)) (apart other key d);
+    changed = find-put name_cmp nat_list_cmp_total key key value entries ∙ ap (λ o. cond (is_eq o) (Some value) (value_of key entries))
+        (tied_itself nat_list_cmp_total key);
+    others = λ other d. find-put name_cmp nat_list_cmp_total other key value entries ∙ ap (λ b. cond b (Some value) (value_of other entries))
+        (apart other key d);
   }
 
   pub gone : (key : List ℕ) (entries : List (List ℕ × V)) → IsOrdered entries → value_of key (without key entries) ≡ None
@@ -51,7 +53,8 @@ module _ {V : Type 0} where
   kept : (key other : List ℕ) (entries : List (List ℕ × V)) → other ≢ key → value_of other (without key entries) ≡ value_of other entries
   kept key other [] d = refl
   kept key other (e ∷ rest) d =
-      elim (name_cmp key e.0) as (λ o. name_cmp key e.0 ≡ o → value_of other (match_ordering o (e ∷ rest) rest (e ∷ without key rest)) ≡ value_of other (e ∷ rest)) [
+      elim (name_cmp key e.0) as (λ o. name_cmp key e.0 ≡ o → value_of other (match_ordering o (e ∷ rest) rest (e ∷ without key rest))
+      ≡ value_of other (e ∷ rest)) [
         | Less ↦ λ p. refl
         | Equal ↦ λ p. let q : is_eq (name_cmp other e.0) ≡ false = apart other e.0 (λ s. d (s ∙ sym (same_name key e.0 p))) in rw q refl
         | Greater ↦ λ p. ap (cond (is_eq (name_cmp other e.0)) (Some e.1)) (kept key other rest d)
@@ -70,12 +73,16 @@ module _ {V : Type 0} where
 
   -- a name has a value exactly where it is one of the keys
   pub has_value : (key : List ℕ) (entries : List (List ℕ × V)) → IsSome (value_of key entries) ↔ Contains (keys_of entries) key
-  has_value key entries = subst (λ o. IsSome o ↔ Contains (keys_of entries) key) (looks_up key entries) (Contains-keys_from_lookup tells key entries, IsSome-lookup_from_Contains (eq_by_cmp_equiv nat_list_cmp_total) key entries)
+  has_value key entries = subst (λ o. IsSome o ↔ Contains (keys_of entries) key) (looks_up key entries) (
+    Contains-keys_from_lookup tells key entries,
+    IsSome-lookup_from_Contains (eq_by_cmp_equiv nat_list_cmp_total) key entries,
+  )
 
   -- so a look-up finds one exactly there
   pub is_there : (key : List ℕ) (entries : List (List ℕ × V)) (found : Option V) → found ≡ value_of key entries → IsSome found ↔ Contains (keys_of entries) key
   is_there key entries found e = subst (λ o. IsSome o ↔ Contains (keys_of entries) key) (sym e) (has_value key entries)
 
-  pub is_there_behind : (key : List ℕ) (entries : List (List ℕ × V)) (found : Option (Bor V)) → option_copied found ≡ value_of key entries → IsSome found ↔ Contains (keys_of entries) key
+  pub is_there_behind : (key : List ℕ) (entries : List (List ℕ × V)) (found : Option (Bor V)) → option_copied found ≡ value_of key entries → IsSome found
+      ↔ Contains (keys_of entries) key
   is_there_behind key entries None e = is_there key entries None e
   is_there_behind key entries (Some x) e = is_there key entries (Some x.now) e

@@ -41,19 +41,22 @@ module _ {V : Type 0} where
       let before : name_cmp key e.0 ≡ Less = less (name_cmp key e.0) (first (is_lt (name_cmp key e.0)) (below_all name_cmp key rest) h) in
       rw before (none_before key rest (second (is_lt (name_cmp key e.0)) (below_all name_cmp key rest) h))
 
-  pub before_all : (key x : List ℕ) (entries : List (List ℕ × V)) → name_cmp key x ≡ Less → below_all name_cmp x entries ≡ true → below_all name_cmp key entries ≡ true
+  pub before_all : (key x : List ℕ) (entries : List (List ℕ × V)) → name_cmp key x ≡ Less → below_all name_cmp x entries ≡ true → below_all name_cmp key entries
+      ≡ true
   before_all key x [] p h = refl
   before_all key x (e ∷ rest) p h =
       let next : name_cmp x e.0 ≡ Less = less (name_cmp x e.0) (first (is_lt (name_cmp x e.0)) (below_all name_cmp x rest) h) in
       let before : name_cmp key e.0 ≡ Less = nat_list_cmp_total.trans key x e.0 p next in
-      both (is_lt (name_cmp key e.0)) (below_all name_cmp key rest) (ap is_lt before) (before_all key x rest p (second (is_lt (name_cmp x e.0)) (below_all name_cmp x rest) h))
+      both (is_lt (name_cmp key e.0)) (below_all name_cmp key rest) (ap is_lt before)
+      (before_all key x rest p (second (is_lt (name_cmp x e.0)) (below_all name_cmp x rest) h))
 
   -- what is known of a name's value where its place was looked for
   abbrev ValueAt : List (List ℕ × V) → List ℕ → Result ℕ ℕ → Type 0
   ValueAt entries key (Ok i) = Unit {0}
   ValueAt entries key (Err i) = value_of key entries ≡ None
 
-  value_later : (key : List ℕ) (e : List ℕ × V) (rest : List (List ℕ × V)) → name_cmp key e.0 ≡ Greater → (place : Result ℕ ℕ) → ValueAt rest key place → ValueAt (e ∷ rest) key place
+  value_later : (key : List ℕ) (e : List ℕ × V) (rest : List (List ℕ × V)) → name_cmp key e.0 ≡ Greater → (place : Result ℕ ℕ) → ValueAt rest key place
+      → ValueAt (e ∷ rest) key place
   value_later key e rest p (Ok i) h = tt
   value_later key e rest p (Err i) h = rw p h
 
@@ -70,17 +73,20 @@ module _ {V : Type 0} where
   pub value_absent : (key : List ℕ) (entries : List (List ℕ × V)) (i : ℕ) → IsOrdered entries → place_from key 0 entries ≡ Err i → value_of key entries ≡ None
   value_absent key entries i h e = let v = value_from key 0 entries h in subst (ValueAt entries key) e v
 
-  found_from : (key : List ℕ) (n : ℕ) (entries : List (List ℕ × V)) (i : ℕ) → place_from key n entries ≡ Ok i → (k : ℕ) × (i ≡ n + k) × (k < length entries) × ((x : List ℕ × V) → value_of key entries ≡ Some (slice_index_or entries k x).1)
+  found_from : (key : List ℕ) (n : ℕ) (entries : List (List ℕ × V)) (i : ℕ) → place_from key n entries ≡ Ok i → (k : ℕ) × (i ≡ n + k) × (k < length entries)
+      × ((x : List ℕ × V) → value_of key entries ≡ Some (slice_index_or entries k x).1)
   found_from key n [] i h = cc
   found_from key n (e ∷ rest) i h =
-      elim (name_cmp key e.0) as (λ o. name_cmp key e.0 ≡ o → match_ordering o (Err n) (Ok n) (place_from key (n + 1) rest) ≡ Ok i → (k : ℕ) × (i ≡ n + k) × (k < length (e ∷ rest)) × ((x : List ℕ × V) → value_of key (e ∷ rest) ≡ Some (slice_index_or (e ∷ rest) k x).1)) [
+      elim (name_cmp key e.0) as (λ o. name_cmp key e.0 ≡ o → match_ordering o (Err n) (Ok n) (place_from key (n + 1) rest) ≡ Ok i → (k : ℕ) × (i ≡ n + k)
+      × (k < length (e ∷ rest)) × ((x : List ℕ × V) → value_of key (e ∷ rest) ≡ Some (slice_index_or (e ∷ rest) k x).1)) [
         | Less ↦ λ p q. cc
         | Equal ↦ λ p q. (0, same_ok n i q, omega arith, λ x. rw p refl)
         | Greater ↦ λ p q. let f = found_from key (n + 1) rest i q in (suc f.0, omega (arith, f.1), omega (arith, f.2), λ x. rw p (f.3 x))
       ] refl h
 
   -- a name has the value at its place
-  pub value_found : (key : List ℕ) (entries : List (List ℕ × V)) (i : ℕ) (x : List ℕ × V) → place_from key 0 entries ≡ Ok i → value_of key entries ≡ Some (slice_index_or entries i x).1
+  pub value_found : (key : List ℕ) (entries : List (List ℕ × V)) (i : ℕ) (x : List ℕ × V) → place_from key 0 entries ≡ Ok i → value_of key entries
+      ≡ Some (slice_index_or entries i x).1
   value_found key entries i x h =
       let f = found_from key 0 entries i h in
       let same : f.0 ≡ i = omega (arith, f.1) in

@@ -1,5 +1,6 @@
 //! A sink in memory, for tests.
-ghost use Rattle.std.specs.Prelude.{◌≡◌, ◌↔◌, ◌++◌, [], ◌^◌, ◌<◌, ◌≤◌, ◌||◌, List, Option, Some, min, length, take, true, false, not, IfOk, IsErr, IsTrue, OnOk, OnErr};
+ghost use Rattle.std.specs.Prelude.{◌≡◌, ◌↔◌, ◌++◌, [], ◌^◌, ◌<◌, ◌≤◌, ◌||◌, List, Option, Some, min, length, take, true, false, not, IfOk, IsErr, IsTrue};
+ghost use Rattle.std.specs.Prelude.{OnOk, OnErr};
 ghost use Rattle.std.specs.Io.KnownBytes.{append_known};
 ghost use Rattle.ck_io.specs.Rose.{Rose};
 

@@ -4,7 +4,9 @@ ghost use Rattle.std.specs.Prelude.{◌≡◌, codes};
 ghost use Rattle.serde_json.specs.Find.{get};
 ghost use Rattle.serde_json.specs.View.{view, items_view};
 ghost use Rattle.json_forms.specs.Form.{Reads};
-ghost use Rattle.settings_definitions.specs.SchemaForm.{subject_at, list_name, flag_name, list_at, flag_at, places_at, sources_at, flags_at, entry_of, only_entry_fields, entry_at, entries_at, child_check_at, attribute_check_at, is_child_form, check_at, checks_at};
+ghost use Rattle.settings_definitions.specs.SchemaForm.{subject_at, list_name, flag_name, list_at, flag_at, places_at, sources_at, flags_at, entry_of};
+ghost use Rattle.settings_definitions.specs.SchemaForm.{only_entry_fields, entry_at, entries_at, child_check_at, attribute_check_at, is_child_form, check_at};
+ghost use Rattle.settings_definitions.specs.SchemaForm.{checks_at};
 
 use ck_base::faults::FieldPath;
 use json_forms::fault::FormFault;

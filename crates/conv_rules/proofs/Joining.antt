@@ -1,5 +1,6 @@
 -- A layer joined at its place.
-use Rattle.std.specs.Prelude.{◌≡◌, ◌<◌, ◌≤◌, ℕ, suc, ◌+◌, List, [], ◌∷◌, ◌++◌, length, Bool, true, false, not, ◌&&◌, Option, Some, None, is_some, is_none, nat_lt, if◌then◌else◌}
+use Rattle.std.specs.Prelude.{◌≡◌, ◌<◌, ◌≤◌, ℕ, suc, ◌+◌, List, [], ◌∷◌, ◌++◌, length, Bool, true, false, not, ◌&&◌, Option, Some, None, is_some, is_none}
+use Rattle.std.specs.Prelude.{nat_lt, if◌then◌else◌}
 use Rattle.std.proofs.Common.{refl, sym, ap, ◌∙◌, arith, subst}
 use Rattle.std.proofs.lemmas.Bool.Decides.{nat_tests}
 use Rattle.std.specs.List.{position, position_or_len, insert, remove}
@@ -64,7 +65,8 @@ module _ (next : Layer) where
       (with_keys (slice_index_or layers (position_or_len (λ layer. may_join layer next) layers) default) next) ≡ join_into next layers
   at_place default [] = λ inside. absurd (omega (arith, inside))
   at_place default (other ∷ layers) =
-      subst (λ p. p < suc (length layers) → insert (remove (other ∷ layers) p) p (with_keys (slice_index_or (other ∷ layers) p default) next) ≡ join_into next (other ∷ layers))
+      subst (λ p. p < suc (length layers) → insert (remove (other ∷ layers) p) p (with_keys (slice_index_or (other ∷ layers) p default) next)
+      ≡ join_into next (other ∷ layers))
       (later (not (may_join other next)) (position_or_len (λ layer. may_join layer next) layers))
       (λ inside. at-step (may_join other next) other default layers inside (at_place default layers))
 
@@ -87,7 +89,8 @@ module _ (next : Layer) where
       → Some place ≡ position (λ other. may_join other next) layers → layer ≡ slice_index_or layers place layer
       → insert (remove layers place) place (with_keys layer next) ≡ join_into next layers
   joined_there layers place layer e is =
-      let there = found (nat_lt (position_or_len (λ other. may_join other next) layers) (length layers)) (position_or_len (λ other. may_join other next) layers) place e in
+      let there = found (nat_lt (position_or_len (λ other. may_join other next) layers) (length layers))
+      (position_or_len (λ other. may_join other next) layers) place e in
       ap (λ l. insert (remove layers place) place (with_keys l next)) is
       ∙ ap (λ p. insert (remove layers p) p (with_keys (slice_index_or layers p layer) next)) there.1
       ∙ at_place layer layers (is_below (position_or_len (λ other. may_join other next) layers) (length layers) there.0)

@@ -36,7 +36,8 @@ with-last : (last : Layer) (front : List Layer) → IsInOrder (front ++ last ∷
     → with_layer last (front ++ last ∷ []) ≡ front ++ last ∷ []
 with-last last [] h e = ap (λ o. by_order o (last ∷ last ∷ []) (last ∷ []) (last ∷ last ∷ [])) e
 with-last last (other ∷ front) h e =
-    ap (λ o. by_order o (other ∷ with_layer last (front ++ last ∷ [])) (other ∷ front ++ last ∷ []) (last ∷ other ∷ front ++ last ∷ [])) (inside-last other last front h.0)
+    ap (λ o. by_order o (other ∷ with_layer last (front ++ last ∷ [])) (other ∷ front ++ last ∷ []) (last ∷ other ∷ front ++ last ∷ []))
+    (inside-last other last front h.0)
     ∙ ap (λ made. other ∷ made) (with-last last front h.1 e)
 
 -- one that is outside the last goes among those before it
@@ -44,7 +45,8 @@ with-greater : (layer last : Layer) (front : List Layer) → layer_cmp last laye
     → with_layer layer (front ++ last ∷ []) ≡ with_layer layer front ++ last ∷ []
 with-greater layer last [] e = ap (λ o. by_order o (last ∷ layer ∷ []) (last ∷ []) (layer ∷ last ∷ [])) e
 with-greater layer last (other ∷ front) e =
-    elim (layer_cmp other layer) as (λ o. by_order o (other ∷ with_layer layer (front ++ last ∷ [])) (other ∷ front ++ last ∷ []) (layer ∷ other ∷ front ++ last ∷ [])
+    elim (layer_cmp other layer) as (λ o. by_order o (other ∷ with_layer layer (front ++ last ∷ [])) (other ∷ front ++ last ∷ [])
+    (layer ∷ other ∷ front ++ last ∷ [])
     ≡ by_order o (other ∷ with_layer layer front) (other ∷ front) (layer ∷ other ∷ front) ++ last ∷ []) [
       | Less ↦ ap (λ made. other ∷ made) (with-greater layer last front e)
       | Equal ↦ refl
@@ -101,10 +103,12 @@ placed_equal layer last front layers first h split e =
     let same : last ≡ layer = tied_layers last layer e in
     let itself : layer_cmp last last ≡ Equal = ap (layer_cmp last) same ∙ e in
     let with : with_layer layer first ≡ first =
-    ap (with_layer layer) split ∙ ap (λ l. with_layer l (front ++ last ∷ [])) (sym same) ∙ with-last last front (subst IsInOrder split h.ordered) itself ∙ sym split in
+    ap (with_layer layer) split ∙ ap (λ l. with_layer l (front ++ last ∷ [])) (sym same) ∙ with-last last front (subst IsInOrder split h.ordered) itself
+    ∙ sym split in
     h.whole ∙ ap (λ made. made ++ drop (length first) layers) (sym with) ∙ sym h.made
 
-pub placed_first : (layer : Layer) (layers first : List Layer) → GoesAmong layer layers first → first ≡ [] → placed layer (Some 0) layers ≡ with_layer layer layers
+pub placed_first : (layer : Layer) (layers first : List Layer) → GoesAmong layer layers first → first ≡ [] → placed layer (Some 0) layers
+    ≡ with_layer layer layers
 placed_first layer layers first h none = sym (h.made ∙ ap (λ f. with_layer layer f ++ drop (length f) layers) none)
 
 pub placed_in_order : (layer : Layer) (layers made : List Layer) → made ≡ with_layer layer layers → IsInOrder layers → IsInOrder made

@@ -4,7 +4,8 @@ use Rattle.std.proofs.Common.{refl, ap}
 use Rattle.converter_definitions.specs.declared.kind.ShapeKind.{ShapeKind}
 use Rattle.converter_definitions.specs.declared.kind.ShapeKind.TheVariants.{Container, Empty, Ui}
 use Rattle.converter_definitions.specs.Form.{Form, Forms, slot, text, element, none, more, forms_of, form_depth, inner_depth}
-use Rattle.converter_definitions.specs.Shape.{is_shape, is_outermost, may_stand, fits, fit_in, form_count, inner_count, slot_count, inner_slots, form_with, forms_with, with_outer}
+use Rattle.converter_definitions.specs.Shape.{is_shape, is_outermost, may_stand, fits, fit_in, form_count, inner_count, slot_count, inner_slots, form_with}
+use Rattle.converter_definitions.specs.Shape.{forms_with, with_outer}
 
 module _ {A B : Type 0} (change : A → B) where
   same_stand : (kind : ShapeKind) (form : Form A) → may_stand kind (form_with change form) ≡ may_stand kind form

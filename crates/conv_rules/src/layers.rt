@@ -2,7 +2,8 @@
 ghost use Rattle.std.specs.Prelude.{◌≡◌, ◌++◌, OnOk, IfOk, option_copied, fold, unwrap_or};
 ghost use Rattle.std.specs.List.{filter_map};
 ghost use Rattle.converter_definitions.specs.Gives.{with_gift};
-ghost use Rattle.converter_definitions.specs.Layers.{stock_character_gift, character_gift, goes_on, highlight_layer, highlight_by, highlight_of, leaf_by, leaf_of, highlights, character_layers, object_layers};
+ghost use Rattle.converter_definitions.specs.Layers.{stock_character_gift, character_gift, goes_on, highlight_layer, highlight_by, highlight_of, leaf_by};
+ghost use Rattle.converter_definitions.specs.Layers.{leaf_of, highlights, character_layers, object_layers};
 ghost use Rattle.conv_rules.specs.Gifts.{gift_viewed, made_view};
 ghost use Rattle.conv_rules.specs.Listed.{converter_of, converters_of, conversion_of};
 
@@ -41,7 +42,8 @@ fn character_turn(
     entry: &Entry,
     made: &mut Collected,
 ) -> Result<(), NoMemory>
-    ensures { OnOk result (made_view made.new ≡ with_gift (made_view made.old) (character_gift attributes.now (converter_of (λ object. gives object) entry.now))) }
+    ensures { OnOk result (made_view made.new
+        ≡ with_gift (made_view made.old) (character_gift attributes.now (converter_of (λ object. gives object) entry.now))) }
 {
     match entry {
         Entry::Stock(converter) => {
@@ -61,7 +63,8 @@ fn character_turns(
     made: &mut Collected,
 ) -> Result<(), NoMemory>
     ensures { OnOk result (made_view made.new
-        ≡ fold (λ made converter. with_gift made (character_gift attributes.now converter)) (made_view made.old) (converters_of (λ object. gives object) entries.now)) }
+        ≡ fold (λ made converter. with_gift made (character_gift attributes.now converter)) (made_view made.old)
+        (converters_of (λ object. gives object) entries.now)) }
 {
     for listed in entries {
         character_turn(alloc, attributes, &listed.entry, made)?;

@@ -44,7 +44,8 @@ impl ConverterList {
     /// No converters. `objects` are the names of the elements that are objects in the text, `joined` says whether layers are joined, and
     /// `indexed` are the names whose elements are counted. It takes no memory.
     pub fn new(alloc: Global, objects: Vec<Name>, joined: bool, indexed: Vec<Name>) -> ConverterList
-        ensures { conversion_of (λ object. gives object) result ≡ record { converters = []; objects = objects.items; joined = joined; indexed = indexed.items } }
+        ensures { conversion_of (λ object. gives object) result
+            ≡ record { converters = []; objects = objects.items; joined = joined; indexed = indexed.items } }
     {
         ConverterList {
             entries: Vec::new(alloc),
@@ -56,9 +57,11 @@ impl ConverterList {
 
     /// Adds a converter behind all of equal or higher priority. It answers `NoMemory` alone beside Ok, and then nothing has changed.
     pub fn add(&mut self, priority: Priority, entry: Entry) -> Result<(), NoMemory>
-        ensures ok { OnOk result (listed_of (λ object. gives object) self.new ≡ added (priority, converter_of (λ object. gives object) entry) (listed_of (λ object. gives object) self.old)) }
+        ensures ok { OnOk result (listed_of (λ object. gives object) self.new
+            ≡ added (priority, converter_of (λ object. gives object) entry) (listed_of (λ object. gives object) self.old)) }
         ensures err { OnErr result (listed_of (λ object. gives object) self.new ≡ listed_of (λ object. gives object) self.old) }
-        ensures others { record (conversion_of (λ object. gives object) self.new) { converters = [] } ≡ record (conversion_of (λ object. gives object) self.old) { converters = [] } }
+        ensures others { record (conversion_of (λ object. gives object) self.new) { converters = [] }
+            ≡ record (conversion_of (λ object. gives object) self.old) { converters = [] } }
     {
         let place = place_behind(self.entries.as_slice(), priority);
         self.entries.insert(place, Listed { priority, entry })?;

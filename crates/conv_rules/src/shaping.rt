@@ -91,7 +91,8 @@ fn entry_turn<L: Ledger>(
     steps: &mut Steps<L>,
     made: &mut Collected,
 ) -> Result<(), NoMemory>
-    ensures made { OnOk result (made_view made.new ≡ with_gift (made_view made.old) (gift objects.now facts.now (converter_of (λ object. gives object) entry.now))) }
+    ensures made { OnOk result (made_view made.new
+        ≡ with_gift (made_view made.old) (gift objects.now facts.now (converter_of (λ object. gives object) entry.now))) }
     ensures calls { steps.new ≤ steps.old + boxed_count (converter_of (λ object. gives object) entry.now ∷ []) }
 {
     match entry {
@@ -114,7 +115,8 @@ fn all_turns<L: Ledger>(
     made: &mut Collected,
 ) -> Result<(), NoMemory>
     ensures made { OnOk result (made_view made.new
-        ≡ fold (λ made converter. with_gift made (gift objects.now facts.now converter)) (made_view made.old) (converters_of (λ object. gives object) entries.now)) }
+        ≡ fold (λ made converter. with_gift made (gift objects.now facts.now converter)) (made_view made.old)
+        (converters_of (λ object. gives object) entries.now)) }
     ensures calls { steps.new ≤ steps.old + boxed_count (converters_of (λ object. gives object) entries.now) }
 {
     for listed in entries {

@@ -2,7 +2,8 @@
 ghost use Rattle.std.specs.Prelude.{◌≡◌, ◌&&◌, IfOk, option_copied, Some, None, [], ◌∷◌};
 ghost use Rattle.std.specs.List.{list_all};
 ghost use Rattle.schema_definitions.specs.Names.{has};
-ghost use Rattle.converter_definitions.specs.Gives.{has_value, is_named, is_meant, gift_if, shape_gift, element_form, layer_from, attribute_text, filled_in, stock_gift, insert_keys, part, layer};
+ghost use Rattle.converter_definitions.specs.Gives.{has_value, is_named, is_meant, gift_if, shape_gift, element_form, layer_from, attribute_text, filled_in};
+ghost use Rattle.converter_definitions.specs.Gives.{stock_gift, insert_keys, part, layer};
 ghost use Rattle.converter_definitions.specs.Pattern.{with_text};
 ghost use Rattle.converter_definitions.specs.Shape.{form_with};
 ghost use Rattle.conv_rules.specs.Gifts.{given_view, gift_view, gift_viewed};

@@ -17,7 +17,8 @@ or-moved true true c = refl
 or-moved true false c = refl
 or-moved false b c = refl
 
-folded-has : (layer : Layer) (layers made : List Layer) → has_layer layer (fold (λ made next. with_layer next made) made layers) ≡ (has_layer layer made || has_layer layer layers)
+folded-has : (layer : Layer) (layers made : List Layer) → has_layer layer (fold (λ made next. with_layer next made) made layers)
+    ≡ (has_layer layer made || has_layer layer layers)
 folded-has layer [] made = or-false (has_layer layer made)
   where
     or-false : (a : Bool) → a ≡ (a || false)

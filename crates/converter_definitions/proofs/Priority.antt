@@ -22,7 +22,8 @@ all-lower : (a b : ℤ) → a <ℤ b → (list : List (ℤ × Converter)) → Ar
 all-lower a b h [] n = tt
 all-lower a b h (other ∷ rest) n = (omega (arith, ints, n.0), all-lower a b h rest n.1)
 
-added-not-higher : (priority : ℤ) (next : ℤ × Converter) (list : List (ℤ × Converter)) → next.0 ≤ℤ priority → AreNotHigher priority list → AreNotHigher priority (added next list)
+added-not-higher : (priority : ℤ) (next : ℤ × Converter) (list : List (ℤ × Converter)) → next.0 ≤ℤ priority → AreNotHigher priority list
+    → AreNotHigher priority (added next list)
 added-not-higher priority next [] h n = (h, tt)
 added-not-higher priority next (other ∷ rest) h n = go (int_lt other.0 next.0) (added-not-higher priority next rest h n.1)
   where
@@ -38,7 +39,8 @@ added-by-priority next (other ∷ rest) b = go (int_lt other.0 next.0) refl (add
     go true e more = (let h = is-less other.0 next.0 e in ((then-not-higher other.0 next.0 h, none-higher other.0 next.0 h rest b.0), b))
     go false e more = (added-not-higher other.0 next rest (not-less other.0 next.0 e) b.0, more)
 
-put-first : (next other : ℤ × Converter) (rest new : List (ℤ × Converter)) → next.0 ≤ℤ other.0 → IsAddedTo next rest new → IsAddedTo next (other ∷ rest) (other ∷ new)
+put-first : (next other : ℤ × Converter) (rest new : List (ℤ × Converter)) → next.0 ≤ℤ other.0 → IsAddedTo next rest new
+    → IsAddedTo next (other ∷ rest) (other ∷ new)
 put-first next other rest new h i = record {
   front = other ∷ i.front;
   back = i.back;
@@ -52,6 +54,8 @@ pub added-behind : (next : ℤ × Converter) (list : List (ℤ × Converter)) �
 added-behind next [] b = record { front = []; back = []; before = refl; after = refl; not_lower = tt; lower = tt }
 added-behind next (other ∷ rest) b = go (int_lt other.0 next.0) refl (added-behind next rest b.1)
   where
-    go : (t : Bool) → int_lt other.0 next.0 ≡ t → IsAddedTo next rest (added next rest) → IsAddedTo next (other ∷ rest) (if t then next ∷ other ∷ rest else other ∷ added next rest)
-    go true e more = (let h = is-less other.0 next.0 e in record { front = []; back = other ∷ rest; before = refl; after = refl; not_lower = tt; lower = (h, all-lower other.0 next.0 h rest b.0) })
+    go : (t : Bool) → int_lt other.0 next.0 ≡ t → IsAddedTo next rest (added next rest)
+        → IsAddedTo next (other ∷ rest) (if t then next ∷ other ∷ rest else other ∷ added next rest)
+    go true e more = (let h = is-less other.0 next.0 e
+        in record { front = []; back = other ∷ rest; before = refl; after = refl; not_lower = tt; lower = (h, all-lower other.0 next.0 h rest b.0) })
     go false e more = put-first next other rest _ (not-less other.0 next.0 e) more

@@ -18,7 +18,8 @@ use Rattle.converter_definitions.specs.declared.facts.Key.TheVariants.{Insert, A
 use Rattle.converter_definitions.specs.declared.part.Part.{Part}
 use Rattle.converter_definitions.specs.declared.part.Part.TheVariants.{Shape, Extra}
 use Rattle.converter_definitions.specs.declared.stock.StockConverter.{StockConverter}
-use Rattle.converter_definitions.specs.declared.stock.StockConverter.TheVariants.{ElementToElement, ElementToStructure, AttributeToElement, AttributeToAttribute, MarkerToHighlight, MarkerToElement}
+use Rattle.converter_definitions.specs.declared.stock.StockConverter.TheVariants.{ElementToElement, ElementToStructure, AttributeToElement}
+use Rattle.converter_definitions.specs.declared.stock.StockConverter.TheVariants.{AttributeToAttribute, MarkerToHighlight, MarkerToElement}
 use Rattle.converter_definitions.specs.declared.stock.ElementView.{ElementView}
 use Rattle.converter_definitions.specs.declared.stock.LayerView.{LayerView}
 use Rattle.converter_definitions.specs.declared.stock.AttributeView.{AttributeView}
@@ -109,7 +110,8 @@ stock_gift objects (ElementToStructure model attributes parent view) facts =
 stock_gift objects (AttributeToElement model value view) facts =
     gift_if (has_value facts.attributes model value && has objects facts.name) (Attribute model ∷ [], layer (layer_from facts.attributes view))
 stock_gift objects (AttributeToAttribute wanted model value view) facts =
-    gift_if (is_named wanted facts.name && has_value facts.attributes model value) (Attribute model ∷ [], part (Extra (with_text view.key (attribute_text facts model view) [])))
+    gift_if (is_named wanted facts.name && has_value facts.attributes model value)
+    (Attribute model ∷ [], part (Extra (with_text view.key (attribute_text facts model view) [])))
 stock_gift objects (MarkerToHighlight marker view) facts = None
 stock_gift objects (MarkerToElement marker view) facts = None
 

@@ -11,7 +11,8 @@ use Rattle.view_definitions.specs.Layer.{Layer}
 use Rattle.view_definitions.specs.Change.{with_layer}
 use Rattle.converter_definitions.specs.declared.facts.Key.TheVariants.{Attribute}
 use Rattle.converter_definitions.specs.declared.stock.StockConverter.{StockConverter}
-use Rattle.converter_definitions.specs.declared.stock.StockConverter.TheVariants.{ElementToElement, ElementToStructure, AttributeToElement, AttributeToAttribute, MarkerToHighlight, MarkerToElement}
+use Rattle.converter_definitions.specs.declared.stock.StockConverter.TheVariants.{ElementToElement, ElementToStructure, AttributeToElement}
+use Rattle.converter_definitions.specs.declared.stock.StockConverter.TheVariants.{AttributeToAttribute, MarkerToHighlight, MarkerToElement}
 use Rattle.converter_definitions.specs.declared.stock.HighlightView.{HighlightView}
 use Rattle.converter_definitions.specs.declared.stock.Leaf.{Leaf}
 use Rattle.converter_definitions.specs.Facts.{attribute_keys}

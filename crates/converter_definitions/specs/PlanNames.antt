@@ -6,7 +6,8 @@ use Rattle.std.specs.Str.{bytes_eq}
 use Rattle.ck_base.specs.declared.value.Value.{Value as AttributeValue}
 use Rattle.ck_base.specs.Name.{is_generic}
 use Rattle.schema_definitions.specs.Names.{has}
-use Rattle.converter_definitions.specs.declared.stock.StockConverter.TheVariants.{ElementToElement, ElementToStructure, AttributeToElement, AttributeToAttribute, MarkerToHighlight, MarkerToElement}
+use Rattle.converter_definitions.specs.declared.stock.StockConverter.TheVariants.{ElementToElement, ElementToStructure, AttributeToElement}
+use Rattle.converter_definitions.specs.declared.stock.StockConverter.TheVariants.{AttributeToAttribute, MarkerToHighlight, MarkerToElement}
 use Rattle.converter_definitions.specs.declared.plan.ConverterPlan.{ConverterPlan}
 use Rattle.converter_definitions.specs.declared.plan.PlanEntry.{PlanEntry}
 use Rattle.converter_definitions.specs.declared.plan.PlanEntry.TheVariants.{Stock, Boxed}
@@ -53,7 +54,8 @@ unknown_custom handed_in before (Boxed name index) = if has handed_in name && no
 -- the first such name, behind these converters
 abbrev pub unknown_custom_from : List (List ℕ) → List ConverterPlan → List ConverterPlan → Option (List ℕ)
 unknown_custom_from handed_in before [] = None
-unknown_custom_from handed_in before (plan ∷ plans) = option_or (unknown_custom handed_in before plan.entry) (unknown_custom_from handed_in (before ++ plan ∷ []) plans)
+unknown_custom_from handed_in before (plan ∷ plans) = option_or (unknown_custom handed_in before plan.entry)
+    (unknown_custom_from handed_in (before ++ plan ∷ []) plans)
 
 -- the first name of a product's converter that wasn't handed in, or that a converter before it has
 abbrev pub first_unknown_custom : List (List ℕ) → List ConverterPlan → Option (List ℕ)

@@ -13,7 +13,8 @@ use Rattle.converter_definitions.specs.declared.facts.Key.TheVariants.{Insert}
 use Rattle.converter_definitions.specs.declared.part.Part.{Part}
 use Rattle.converter_definitions.specs.declared.part.Part.TheVariants.{Shape}
 use Rattle.converter_definitions.specs.declared.pattern.Pattern.TheVariants.{Text, From, Index}
-use Rattle.converter_definitions.specs.declared.stock.StockConverter.TheVariants.{ElementToElement, ElementToStructure, AttributeToElement, AttributeToAttribute, MarkerToHighlight, MarkerToElement}
+use Rattle.converter_definitions.specs.declared.stock.StockConverter.TheVariants.{ElementToElement, ElementToStructure, AttributeToElement}
+use Rattle.converter_definitions.specs.declared.stock.StockConverter.TheVariants.{AttributeToAttribute, MarkerToHighlight, MarkerToElement}
 use Rattle.converter_definitions.specs.declared.stock.ElementView.{ElementView}
 use Rattle.converter_definitions.specs.declared.stock.LayerView.{LayerView}
 use Rattle.converter_definitions.specs.Form.{Form, Forms, element, none, more}
@@ -59,7 +60,8 @@ sample_converters =
     ∷ stock (AttributeToAttribute (Some (codes "heading")) (codes "anchor") None (record { key = codes "id"; value = None }))
     ∷ stock (AttributeToElement (codes "bold") (Some (Truth true)) (layer_view (codes "strong") []))
     ∷ stock (AttributeToElement (codes "italic") None (layer_view (codes "i") []))
-    ∷ stock (AttributeToElement (codes "link") None (record { name = codes "a"; attributes = (codes "href", From (codes "link")) ∷ []; priority = pos 5; id = None }))
+    ∷ stock (AttributeToElement (codes "link") None
+    (record { name = codes "a"; attributes = (codes "href", From (codes "link")) ∷ []; priority = pos 5; id = None }))
     ∷ stock (MarkerToHighlight (codes "comment") (record { name = codes "span"; attributes = class (codes "comment"); priority = pos 10; id = None }))
     ∷ stock (MarkerToElement (codes "bookmark") (record { name = codes "a"; attrs = class (codes "bookmark") }))
     ∷ []

@@ -2,7 +2,8 @@
 ghost use Rattle.std.specs.Prelude.{◌≡◌, ◌-◌, ◌^◌, min};
 ghost use Rattle.converter_definitions.specs.Form.{forms_of, form_depth, inner_depth};
 ghost use Rattle.converter_definitions.specs.Parts.{shape_of, shapes_of};
-ghost use Rattle.converter_definitions.specs.Shape.{may_hold, may_stand, fits, fit_in, form_count, inner_count, slot_count, inner_slots, is_outermost, is_shape};
+ghost use Rattle.converter_definitions.specs.Shape.{may_hold, may_stand, fits, fit_in, form_count, inner_count, slot_count, inner_slots, is_outermost};
+ghost use Rattle.converter_definitions.specs.Shape.{is_shape};
 
 use crate::kind::ShapeKind;
 use crate::shape::ShapeNode;

@@ -6,7 +6,8 @@ use Rattle.settings_definitions.specs.declared.converter_parts.Before.{Before}
 use Rattle.settings_definitions.specs.ShapeForm.{node_of, node_at, below}
 
 -- a node is read by the reader of the next level
-pub node_level : (indexes : Bool) (levels : ℕ) (parent : Option ShapeKind) (before : Before) (path : List ℕ) (d : Data) → node_at indexes levels parent before path d ≡ node_of indexes (below indexes levels) levels parent before path d
+pub node_level : (indexes : Bool) (levels : ℕ) (parent : Option ShapeKind) (before : Before) (path : List ℕ) (d : Data)
+    → node_at indexes levels parent before path d ≡ node_of indexes (below indexes levels) levels parent before path d
 unfolding node_at below
 node_level indexes zero parent before path d = refl
 node_level indexes (suc levels) parent before path d = refl

@@ -1,5 +1,6 @@
 -- What is read as a shape is one.
-use Rattle.std.proofs.Common.{◌≡◌, ◌<◌, ◌≤◌, ◌+◌, ℕ, zero, suc, List, [], ◌∷◌, Bool, true, false, ◌&&◌, ◌==◌, Option, Some, None, Result, Ok, Err, if◌then◌else◌, refl, subst, arith}
+use Rattle.std.proofs.Common.{◌≡◌, ◌<◌, ◌≤◌, ◌+◌, ℕ, zero, suc, List, [], ◌∷◌, Bool, true, false, ◌&&◌, ◌==◌, Option, Some, None, Result, Ok, Err}
+use Rattle.std.proofs.Common.{if◌then◌else◌, refl, subst, arith}
 use Rattle.std.specs.Prelude.{nat_le, nat_lt, is_some, codes, ⊤}
 use Rattle.std.proofs.lemmas.Bool.{ltb-true, eqb-true, le-leb, and_parts, and_from}
 use Rattle.std.specs.Str.{chars}
@@ -14,7 +15,8 @@ use Rattle.converter_definitions.specs.Form.{Form, Forms, slot, text, element, f
 use Rattle.converter_definitions.specs.Pattern.{Patterns}
 use Rattle.converter_definitions.specs.Shape.{may_stand, is_outermost, fits, fit_in, form_count, inner_count, slot_count, inner_slots, is_shape}
 use Rattle.settings_definitions.specs.declared.converter_parts.Before.{Before}
-use Rattle.settings_definitions.specs.ShapeForm.{Reader, takes_slot, takes_text, takes_element, stands, behind, inside, nodes_at, children_if, children_at, slot_field, slot_at, text_at, head_at, element_at, object_node_at, node_of, no_reader, node_at}
+use Rattle.settings_definitions.specs.ShapeForm.{Reader, takes_slot, takes_text, takes_element, stands, behind, inside, nodes_at, children_if, children_at}
+use Rattle.settings_definitions.specs.ShapeForm.{slot_field, slot_at, text_at, head_at, element_at, object_node_at, node_of, no_reader, node_at}
 
 -- what a step that gives something went through
 step : {A B : Type 0} (r : Result A FormFault) (next : A → Result B FormFault) (b : B) → (r >>= next) ≡ Ok b → (a : A) × (r ≡ Ok a) × (next a ≡ Ok b)
@@ -41,7 +43,8 @@ taken_text : (parent : Option ShapeKind) (scalars : List ℕ) → takes_text par
 taken_text None scalars e = e
 taken_text (Some parent) scalars e = e
 
-taken_element : (parent : Option ShapeKind) (kind : ShapeKind) (name : List ℕ) (attributes : Patterns) (children : Forms Patterns) → takes_element parent kind ≡ true → is_taken parent (element kind name attributes children) ≡ true
+taken_element : (parent : Option ShapeKind) (kind : ShapeKind) (name : List ℕ) (attributes : Patterns) (children : Forms Patterns)
+    → takes_element parent kind ≡ true → is_taken parent (element kind name attributes children) ≡ true
 taken_element None Container name attributes children e = e
 taken_element None Empty name attributes children e = absurd cc
 taken_element None Ui name attributes children e = absurd cc
@@ -80,9 +83,11 @@ record AllSound (levels : ℕ) (parent : ShapeKind) (before : Before) (forms : L
 
 -- a reader that answers such nodes alone
 abbrev Careful : Reader → ℕ → Type 0
-Careful reader levels = (parent : Option ShapeKind) (before : Before) (path : List ℕ) (d : Data) (form : Form Patterns) → reader parent before path d ≡ Ok form → Sound levels parent before form
+Careful reader levels = (parent : Option ShapeKind) (before : Before) (path : List ℕ) (d : Data) (form : Form Patterns) → reader parent before path d
+    ≡ Ok form → Sound levels parent before form
 
-slot_sound : (levels : ℕ) (parent : Option ShapeKind) (before : Before) (path : List ℕ) (d : Data) (form : Form Patterns) → slot_at levels parent before path d ≡ Ok form → Sound levels parent before form
+slot_sound : (levels : ℕ) (parent : Option ShapeKind) (before : Before) (path : List ℕ) (d : Data) (form : Form Patterns)
+    → slot_at levels parent before path d ≡ Ok form → Sound levels parent before form
 unfolding slot_at
 slot_sound levels parent before path d form e =
     let a = step (slot_field path d) _ form e in
@@ -95,10 +100,18 @@ slot_sound levels parent before path d form e =
     let same : slot ≡ form = cc in
     let left : 0 < levels = tests.left in
     let few : before.nodes < 32 = tests.few in
-    let sound : Sound levels parent before slot = record { standing = taken_slot parent parts.0; fitting = refl; nodes = omega arith; slots = λ h. omega arith; deep = omega arith } in
+    let sound : Sound levels parent before slot = record {
+      standing = taken_slot parent parts.0;
+      fitting = refl;
+      nodes = omega arith;
+      slots =
+          λ h. omega arith;
+      deep = omega arith;
+    } in
     subst (Sound levels parent before) same sound
 
-text_sound : (levels : ℕ) (parent : Option ShapeKind) (before : Before) (path scalars : List ℕ) (form : Form Patterns) → text_at levels parent before path scalars ≡ Ok form → Sound levels parent before form
+text_sound : (levels : ℕ) (parent : Option ShapeKind) (before : Before) (path scalars : List ℕ) (form : Form Patterns)
+    → text_at levels parent before path scalars ≡ Ok form → Sound levels parent before form
 unfolding text_at
 text_sound levels parent before path scalars form e =
     let a = step (stands path (takes_text parent) levels before) _ form e in
@@ -107,16 +120,30 @@ text_sound levels parent before path scalars form e =
     let same : text scalars ≡ form = cc in
     let left : 0 < levels = tests.left in
     let few : before.nodes < 32 = tests.few in
-    let sound : Sound levels parent before (text scalars) = record { standing = taken_text parent scalars tests.fitted; fitting = refl; nodes = omega arith; slots = λ h. omega arith; deep = omega arith } in
+    let sound : Sound levels parent before (text scalars) = record {
+      standing = taken_text parent scalars tests.fitted;
+      fitting = refl;
+      nodes =
+          omega arith;
+      slots = λ h. omega arith;
+      deep = omega arith;
+    } in
     subst (Sound levels parent before) same sound
 
 module _ (reader : Reader) (levels : ℕ) (careful : Careful reader levels) where
-  nodes_sound : (kind : ShapeKind) (before : Before) (path : List ℕ) (index : ℕ) (items : Items) (forms : List (Form Patterns)) → nodes_at reader (Some kind) before path index items ≡ Ok forms → AllSound levels kind before forms
+  nodes_sound : (kind : ShapeKind) (before : Before) (path : List ℕ) (index : ℕ) (items : Items) (forms : List (Form Patterns))
+      → nodes_at reader (Some kind) before path index items ≡ Ok forms → AllSound levels kind before forms
   unfolding nodes_at behind
   nodes_sound kind before path index no_items forms e =
       let last : answers [] ≡ answers forms = e in
       let same : [] ≡ forms = cc in
-      let sound : AllSound levels kind before [] = record { fitting = refl; nodes = λ h. omega (arith, h); slots = λ h. omega (arith, h); deep = omega arith } in
+      let sound : AllSound levels kind before [] = record {
+        fitting = refl;
+        nodes = λ h. omega (arith, h);
+        slots = λ h. omega (arith, h);
+        deep =
+            omega arith;
+      } in
       subst (AllSound levels kind before) same sound
   nodes_sound kind before path index (item d rest) forms e =
       let a = step (reader (Some kind) before (index_path path index) d) _ forms e in
@@ -131,24 +158,34 @@ module _ (reader : Reader) (levels : ℕ) (careful : Careful reader levels) wher
       let others_deep : inner_depth (forms_of b.0) ≤ levels = others.deep in
       let all_slots : before.slots ≤ 1 → before.slots + slot_count a.0 + inner_slots (forms_of b.0) ≤ 1 = λ h. others.slots (one.slots h) in
       let sound : AllSound levels kind before (a.0 ∷ b.0) = record {
-        fitting = and_from (may_stand kind a.0 && fits a.0) (fit_in kind (forms_of b.0)) (and_from (may_stand kind a.0) (fits a.0) one.standing one.fitting) others.fitting;
+        fitting = and_from (may_stand kind a.0 && fits a.0) (fit_in kind (forms_of b.0))
+            (and_from (may_stand kind a.0) (fits a.0) one.standing one.fitting) others.fitting;
         nodes = λ h. omega arith;
         slots = λ h. omega (arith, all_slots h);
         deep = omega arith;
       } in
       subst (AllSound levels kind before) same sound
 
-  children_sound : (kind : ShapeKind) (before : Before) (path : List ℕ) (found : Option Data) (forms : List (Form Patterns)) → children_if reader (Some kind) before path found ≡ Ok forms → AllSound levels kind before forms
+  children_sound : (kind : ShapeKind) (before : Before) (path : List ℕ) (found : Option Data) (forms : List (Form Patterns))
+      → children_if reader (Some kind) before path found ≡ Ok forms → AllSound levels kind before forms
   children_sound kind before path None forms e =
       let last : answers [] ≡ answers forms = e in
       let same : [] ≡ forms = cc in
-      let sound : AllSound levels kind before [] = record { fitting = refl; nodes = λ h. omega (arith, h); slots = λ h. omega (arith, h); deep = omega arith } in
+      let sound : AllSound levels kind before [] = record {
+        fitting = refl;
+        nodes = λ h. omega (arith, h);
+        slots = λ h. omega (arith, h);
+        deep =
+            omega arith;
+      } in
       subst (AllSound levels kind before) same sound
   children_sound kind before path (Some found) forms e =
       let a = step (or_bad path (as_array found)) (nodes_at reader (Some kind) before path 0) forms e in
       nodes_sound kind before path 0 a.0 forms a.2
 
-  element_sound : (indexes : Bool) (here : ℕ) → (0 < here → levels + 1 ≡ here) → (parent : Option ShapeKind) (before : Before) (path : List ℕ) (d : Data) (form : Form Patterns) → element_at indexes reader here parent before path d ≡ Ok form → Sound here parent before form
+  element_sound : (indexes : Bool) (here : ℕ) → (0 < here → levels + 1 ≡ here)
+      → (parent : Option ShapeKind) (before : Before) (path : List ℕ) (d : Data) (form : Form Patterns)
+      → element_at indexes reader here parent before path d ≡ Ok form → Sound here parent before form
   unfolding element_at children_at inside
   element_sound indexes here next parent before path d form e =
       let a = step (head_at indexes path d) _ form e in
@@ -175,7 +212,9 @@ module _ (reader : Reader) (levels : ℕ) (careful : Careful reader levels) wher
       } in
       subst (Sound here parent before) same sound
 
-  object_sound : (indexes : Bool) (here : ℕ) → (0 < here → levels + 1 ≡ here) → (is_slot : Bool) (parent : Option ShapeKind) (before : Before) (path : List ℕ) (d : Data) (form : Form Patterns) → (if is_slot then slot_at here parent before path d else element_at indexes reader here parent before path d) ≡ Ok form → Sound here parent before form
+  object_sound : (indexes : Bool) (here : ℕ) → (0 < here → levels + 1 ≡ here)
+      → (is_slot : Bool) (parent : Option ShapeKind) (before : Before) (path : List ℕ) (d : Data) (form : Form Patterns)
+      → (if is_slot then slot_at here parent before path d else element_at indexes reader here parent before path d) ≡ Ok form → Sound here parent before form
   object_sound indexes here next true parent before path d form e = slot_sound here parent before path d form e
   object_sound indexes here next false parent before path d form e = element_sound indexes here next parent before path d form e
 
@@ -198,7 +237,8 @@ node_sound indexes zero = node_of_sound no_reader 0 no_reader_sound indexes 0 (�
 node_sound indexes (suc levels) = node_of_sound (node_at indexes levels) levels (node_sound indexes levels) indexes (suc levels) (λ some. omega arith)
 
 -- what is read as the outermost node of a shape is a shape
-pub read_shape : (indexes : Bool) (path : List ℕ) (d : Data) (form : Form Patterns) → node_at indexes 8 None (record { nodes = 0; slots = 0 }) path d ≡ Ok form → is_shape form ≡ true
+pub read_shape : (indexes : Bool) (path : List ℕ) (d : Data) (form : Form Patterns) → node_at indexes 8 None (record { nodes = 0; slots = 0 }) path d
+    ≡ Ok form → is_shape form ≡ true
 read_shape indexes path d form e =
     let nothing : Before = record { nodes = 0; slots = 0 } in
     let sound = node_sound indexes 8 None nothing path d form e in

@@ -6,7 +6,11 @@ ghost use Rattle.json_forms.specs.Form.{Reads};
 ghost use Rattle.settings_definitions.specs.PatternForm.{pattern_at};
 ghost use Rattle.settings_definitions.specs.ShapeForm.{shape_at};
 ghost use Rattle.settings_definitions.specs.ViewForm.{viewed, element_view_at, layer_view_at, attribute_view_at, highlight_view_at, leaf_at};
-ghost use Rattle.settings_definitions.specs.ConverterForm.{stock_plan, reads_index, only_element_fields, element_converter_at, structure_converter_at, optional_value, layer_converter_at, is_index_view, element_field, attribute_converter_at, only_marker_fields, highlight_converter_at, leaf_converter_at, index_field, only_indexed_fields, only_plain_fields, only_custom_fields, custom_converter_at, kind_of, kind_field, kind_converter_at, converter_at, converters_at};
+ghost use Rattle.settings_definitions.specs.ConverterForm.{stock_plan, reads_index, only_element_fields, element_converter_at, structure_converter_at};
+ghost use Rattle.settings_definitions.specs.ConverterForm.{optional_value, layer_converter_at, is_index_view, element_field, attribute_converter_at};
+ghost use Rattle.settings_definitions.specs.ConverterForm.{only_marker_fields, highlight_converter_at, leaf_converter_at, index_field, only_indexed_fields};
+ghost use Rattle.settings_definitions.specs.ConverterForm.{only_plain_fields, only_custom_fields, custom_converter_at, kind_of, kind_field, kind_converter_at};
+ghost use Rattle.settings_definitions.specs.ConverterForm.{converter_at, converters_at};
 
 use crate::patterns::pattern_at;
 use crate::priorities::priority_field;

@@ -3,7 +3,8 @@
 ghost use Rattle.std.specs.Prelude.{◌≡◌, [], IfOk};
 ghost use Rattle.serde_json.specs.View.{view, members_view};
 ghost use Rattle.json_forms.specs.Form.{Reads};
-ghost use Rattle.settings_definitions.specs.PatternForm.{from_pattern, index_pattern, object_pattern, pattern_at, key_pattern_at, patterns_from, patterns_field, key_text_at, texts_from, texts_field};
+ghost use Rattle.settings_definitions.specs.PatternForm.{from_pattern, index_pattern, object_pattern, pattern_at, key_pattern_at, patterns_from};
+ghost use Rattle.settings_definitions.specs.PatternForm.{patterns_field, key_text_at, texts_from, texts_field};
 
 use ck_base::attributes::ViewAttrs;
 use ck_base::faults::FieldPath;

@@ -1,7 +1,8 @@
 //! The names in a list of converters: those that have to be items, those of products' converters, and the items that need a converter.
 ghost use Rattle.std.specs.Prelude.{◌≡◌, option_copied};
 ghost use Rattle.schema_definitions.specs.Names.{has};
-ghost use Rattle.converter_definitions.specs.PlanNames.{unless_known, unless_all_known, unknown_of_entry, first_unknown_item, is_custom, uses, unknown_custom, first_unknown_custom, is_bare, is_unconditional, converts, first_without_converter};
+ghost use Rattle.converter_definitions.specs.PlanNames.{unless_known, unless_all_known, unknown_of_entry, first_unknown_item, is_custom, uses, unknown_custom};
+ghost use Rattle.converter_definitions.specs.PlanNames.{first_unknown_custom, is_bare, is_unconditional, converts, first_without_converter};
 ghost use Rattle.ck_base.specs.Name.{is_generic};
 
 use ck_base::attributes::Attrs;

@@ -5,7 +5,9 @@ ghost use Rattle.std.specs.Str.{chars};
 ghost use Rattle.serde_json.specs.View.{view, items_view};
 ghost use Rattle.json_forms.specs.Form.{Reads};
 ghost use Rattle.converter_definitions.specs.Parts.{shape_of, shapes_of};
-ghost use Rattle.settings_definitions.specs.ShapeForm.{takes_slot, takes_text, takes_element, stands, behind, behind_all, inside, nodes_at, children_at, slot_field, slot_at, text_at, kind_of_type, type_field, head_at, element_at, object_node_at, node_of, node_at, below, shape_at};
+ghost use Rattle.settings_definitions.specs.ShapeForm.{takes_slot, takes_text, takes_element, stands, behind, behind_all, inside, nodes_at, children_at};
+ghost use Rattle.settings_definitions.specs.ShapeForm.{slot_field, slot_at, text_at, kind_of_type, type_field, head_at, element_at, object_node_at, node_of};
+ghost use Rattle.settings_definitions.specs.ShapeForm.{node_at, below, shape_at};
 
 use crate::patterns::patterns_field;
 use ck_base::faults::FieldPath;

@@ -3,7 +3,8 @@
 ghost use Rattle.std.specs.Prelude.{◌≡◌, codes, unwrap_or};
 ghost use Rattle.serde_json.specs.View.{view};
 ghost use Rattle.json_forms.specs.Form.{Reads, field_at};
-ghost use Rattle.settings_definitions.specs.ViewForm.{is_empty_type, empty_type_field, element_view_at, only_layer_fields, layer_view_at, optional_pattern, attribute_view_at, highlight_name_field, highlight_view_at, leaf_at};
+ghost use Rattle.settings_definitions.specs.ViewForm.{is_empty_type, empty_type_field, element_view_at, only_layer_fields, layer_view_at, optional_pattern};
+ghost use Rattle.settings_definitions.specs.ViewForm.{attribute_view_at, highlight_name_field, highlight_view_at, leaf_at};
 
 use crate::patterns::{pattern_at, patterns_field, texts_field};
 use crate::priorities::layer_priority_field;

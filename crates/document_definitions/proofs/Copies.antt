@@ -11,7 +11,8 @@ use Rattle.ck_base.proofs.Common.{first, second, both, less}
 
 module _ {V : Type 0} where
   -- a name behind all others goes last
-  pub last : (entries : List (List ℕ × V)) (key : List ℕ) (value : V) → IsOrdered (entries ++ (key, value) ∷ []) → with_value key value entries ≡ entries ++ (key, value) ∷ []
+  pub last : (entries : List (List ℕ × V)) (key : List ℕ) (value : V) → IsOrdered (entries ++ (key, value) ∷ []) → with_value key value entries
+      ≡ entries ++ (key, value) ∷ []
   last [] key value h = refl
   last (e ∷ rest) key value h =
       let behind : name_cmp key e.0 ≡ Greater = greater (name_cmp key e.0) (below rest (first _ _ h)) in
@@ -35,12 +36,14 @@ module _ {V : Type 0} where
       below (f ∷ done) h = both (is_lt (name_cmp e.0 f.0)) _ (first _ _ h) (below done (second (is_lt (name_cmp e.0 f.0)) _ h))
 
   -- the next of some entries in order goes last
-  pub next : (done rest all : List (List ℕ × V)) (key : List ℕ) (value : V) → IsOrdered all → done ++ (key, value) ∷ rest ≡ all → with_value key value done ≡ done ++ (key, value) ∷ []
+  pub next : (done rest all : List (List ℕ × V)) (key : List ℕ) (value : V) → IsOrdered all → done ++ (key, value) ∷ rest ≡ all
+      → with_value key value done ≡ done ++ (key, value) ∷ []
   next done rest all key value h e =
       let split : (done ++ (key, value) ∷ []) ++ rest ≡ all = append_assoc done ((key, value) ∷ []) rest ∙ e in
       last done key value (front (done ++ (key, value) ∷ []) rest (subst IsOrdered (sym split) h))
 
   -- a table with one more of all entries, before those that are left
-  pub next_copied : (done rest all made : List (List ℕ × V)) (key : List ℕ) (value : V) → IsOrdered all → done ++ (key, value) ∷ rest ≡ all → made ≡ with_value key value done → made ++ rest ≡ all
+  pub next_copied : (done rest all made : List (List ℕ × V)) (key : List ℕ) (value : V) → IsOrdered all → done ++ (key, value) ∷ rest ≡ all
+      → made ≡ with_value key value done → made ++ rest ≡ all
   next_copied done rest all made key value h e with_next =
       ap (λ es. es ++ rest) (with_next ∙ next done rest all key value h e) ∙ append_assoc done ((key, value) ∷ []) rest ∙ e

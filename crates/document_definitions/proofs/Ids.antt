@@ -1,5 +1,6 @@
 -- How often an id stands in a tree and in the cells beside it, before and after an operation.
-use Rattle.std.proofs.Common.{◌≡◌, ℕ, zero, suc, ◌+◌, ◌-◌, ◌<◌, Bool, true, false, nat_eq, nat_lt, nat_le, ◌&&◌, ◌==◌, if◌then◌else◌, not, List, [], ◌∷◌, ◌++◌, length, take, drop, set, Option, Some, option_map, slice_get, slice_set, ok_or, Result, Ok, refl, sym, ap, ◌∙◌, arith}
+use Rattle.std.proofs.Common.{◌≡◌, ℕ, zero, suc, ◌+◌, ◌-◌, ◌<◌, Bool, true, false, nat_eq, nat_lt, nat_le, ◌&&◌, ◌==◌, if◌then◌else◌, not, List, [], ◌∷◌, ◌++◌}
+use Rattle.std.proofs.Common.{length, take, drop, set, Option, Some, option_map, slice_get, slice_set, ok_or, Result, Ok, refl, sym, ap, ◌∙◌, arith}
 use Rattle.std.specs.List.{flat_map}
 use Rattle.std.specs.Option.{option_map_or}
 use Rattle.std.specs.Cmp.Lexicographic.{pointwise}
@@ -10,8 +11,10 @@ use Rattle.item_definitions.specs.Item.{Item, Items, character, element, none, m
 use Rattle.item_definitions.specs.Children.{Change, parent_of, offset_of, at, in_item}
 use Rattle.item_definitions.specs.Shift.{carry_remove}
 use Rattle.operation_definitions.specs.Level.{put_in, take_out, give, given, rename_at, renamed, one_item, split_at, split_item, merge_at, merge_items}
-use Rattle.operation_definitions.specs.Operation.{Fault, Operation, in_tree, in_cell, fresh, from_cell, insert, move, attribute, rename, split, merge, marker, no_place, not_flat, into_itself, old_differs, not_neighbours, cell_state, found_name}
-use Rattle.operation_definitions.specs.After.{◌>>=◌, check, effect, in_cell_at, is_free, is_empty, fill, holds_count, shell_of, like, room_at, is_in_run, have_value}
+use Rattle.operation_definitions.specs.Operation.{Fault, Operation, in_tree, in_cell, fresh, from_cell, insert, move, attribute, rename, split, merge, marker}
+use Rattle.operation_definitions.specs.Operation.{no_place, not_flat, into_itself, old_differs, not_neighbours, cell_state, found_name}
+use Rattle.operation_definitions.specs.After.{◌>>=◌, check, effect, in_cell_at, is_free, is_empty, fill, holds_count, shell_of, like, room_at, is_in_run}
+use Rattle.operation_definitions.specs.After.{have_value}
 use Rattle.operation_definitions.proofs.Lifting.{map-some, then-some}
 use Rattle.operation_definitions.proofs.Steps.{step-ok, ok_or-some, check-true}
 use Rattle.operation_definitions.proofs.Simple.{State, pair-first, pair-second}
@@ -121,7 +124,8 @@ module _ (id : ℕ) where
   given-count key value [] = refl
   given-count key value (character scalar attributes ∷ run) = given-count key value run
   given-count key value (element own name attributes children ∷ run) = ap (λ n. (if id == own then 1 else 0) + n)
-      (times-append id (ids_of_inner children) (ids_of (given key value run)) ∙ ap (λ n. times id (ids_of_inner children) + n) (given-count key value run) ∙ sym (times-append id (ids_of_inner children) (ids_of run)))
+      (times-append id (ids_of_inner children) (ids_of (given key value run))
+      ∙ ap (λ n. times id (ids_of_inner children) + n) (given-count key value run) ∙ sym (times-append id (ids_of_inner children) (ids_of run)))
 
   give-counts : (offset count : ℕ) (key : List ℕ) (value : Option AttributeValue) (old : List Item) → Counts (give offset count key value) old 0 0
   give-counts offset count key value old xs ys e =
@@ -147,14 +151,16 @@ module _ (id : ℕ) where
       omega (arith, c, g)
 
   -- a shell brings itself alone
-  split-counts : (index offset : ℕ) (shell : Item → Item) (brings : ℕ) → ((item : Item) (items : List Item) → inner item ≡ Some items → (inner (shell item) ≡ Some []) × (in_one (shell item) ≡ brings))
+  split-counts : (index offset : ℕ) (shell : Item → Item) (brings : ℕ)
+      → ((item : Item) (items : List Item) → inner item ≡ Some items → (inner (shell item) ≡ Some []) × (in_one (shell item) ≡ brings))
       → (r : Item) → Counts (split_at index offset shell) r 0 brings
   split-counts index offset shell brings bare r xs ys e =
       let p = replacing index 1 (one_item (λ item. split_item offset (shell item) item)) xs ys r e in
       let s = split-parts offset shell p.run p.new r p.gives in
       let c = parted-count index 1 xs ys p.run p.new p.parted in
       let run : in_items p.run ≡ in_items (s.item ∷ []) = ap in_items s.one in
-      let new : in_items p.new ≡ in_items (with_inner (take offset s.items) s.item ∷ with_inner (drop offset s.items) (shell s.item) ∷ []) = ap in_items s.two in
+      let new : in_items p.new ≡ in_items (with_inner (take offset s.items) s.item ∷ with_inner (drop offset s.items) (shell s.item) ∷ []) =
+      ap in_items s.two in
       let a = items-cons s.item [] in
       let b = items-cons (with_inner (take offset s.items) s.item) (with_inner (drop offset s.items) (shell s.item) ∷ []) in
       let d = items-cons (with_inner (drop offset s.items) (shell s.item)) [] in
@@ -189,7 +195,8 @@ module _ (id : ℕ) where
   cells-cons : (cell : List Item) (cells : List (List Item)) → in_cells (cell ∷ cells) ≡ in_items cell + in_cells cells
   cells-cons cell cells = times-append id (ids_of cell) (flat_map ids_of cells)
 
-  cells-set : (cells : List (List Item)) (n : ℕ) (items : List Item) → n < length cells → in_cells (set cells n items) + in_items (in_cell_at cells n) ≡ in_cells cells + in_items items
+  cells-set : (cells : List (List Item)) (n : ℕ) (items : List Item) → n < length cells → in_cells (set cells n items) + in_items (in_cell_at cells n)
+      ≡ in_cells cells + in_items items
   cells-set [] n items less = absurd (omega arith)
   cells-set (cell ∷ cells) zero items less =
       let a = cells-cons items cells in
@@ -222,7 +229,8 @@ module _ (id : ℕ) where
   nothing (x ∷ xs) e = absurd cc
 
   -- a free cell is filled
-  fill-counts : (cells : List (List Item)) (n : ℕ) (items : List Item) → is_free cells n ≡ true → in_cells (fill cells n items) ≡ in_cells cells + in_items items
+  fill-counts : (cells : List (List Item)) (n : ℕ) (items : List Item) → is_free cells n ≡ true → in_cells (fill cells n items)
+      ≡ in_cells cells + in_items items
   fill-counts cells n items free = go (nat_lt n (length cells)) refl
     where
       go : (t : Bool) → t ≡ nat_lt n (length cells) → in_cells (if t then set cells n items else cells ++ items ∷ []) ≡ in_cells cells + in_items items
@@ -243,13 +251,15 @@ module _ (id : ℕ) where
 
   -- so many more, where the tree and the cells are these
   more-by : (brings : ℕ) (items : List Item) (cells : List (List Item)) (there : List Item) (kept : List (List Item)) (made : State)
-      → ◌≡◌ {A = Result State Fault} (Ok (there, kept)) (Ok made) → in_items there + in_cells kept ≡ in_state items cells + brings → in_state made.0 made.1 ≡ in_state items cells + brings
+      → ◌≡◌ {A = Result State Fault} (Ok (there, kept)) (Ok made) → in_items there + in_cells kept ≡ in_state items cells + brings
+      → in_state made.0 made.1 ≡ in_state items cells + brings
   more-by brings items cells there kept made e h =
       let a : in_items there ≡ in_items made.0 = ap in_items (pair-first (there, kept) made e) in
       let b : in_cells kept ≡ in_cells made.1 = ap in_cells (pair-second (there, kept) made e) in
       omega (arith, a, b, h)
 
-  like_bare : (new : ℕ) (item : Item) (items : List Item) → inner item ≡ Some items → (inner (like new item) ≡ Some []) × (in_one (like new item) ≡ times id (new ∷ []))
+  like_bare : (new : ℕ) (item : Item) (items : List Item) → inner item ≡ Some items → (inner (like new item) ≡ Some [])
+      × (in_one (like new item) ≡ times id (new ∷ []))
   like_bare new (character scalar attributes) items e = absurd cc
   like_bare new (element old name attributes children) items e = (refl, refl)
 
@@ -269,22 +279,28 @@ module _ (id : ℕ) where
   pub effect-counts : (items : List Item) (cells : List (List Item)) (operation : Operation) (made : State) → effect items cells operation ≡ Ok made
       → in_state made.0 made.1 ≡ in_state items cells + times id (brought operation)
   effect-counts items cells (insert position new) made e =
-      let a = step-ok (ok_or (at (parent_of position) (put_in (offset_of position) new) items) no_place) (λ (m : List Item × Unit {0}). Ok (m.0, cells)) made e in
+      let a = step-ok (ok_or (at (parent_of position) (put_in (offset_of position) new) items) no_place) (λ (m : List Item × Unit {0}). Ok (m.0, cells))
+      made e in
       let there = ok_or-some (at (parent_of position) (put_in (offset_of position) new) items) no_place a.0 a.1 in
-      let c = counts-at (put_in (offset_of position) new) a.0.1 0 (in_items new) (put_in-counts (offset_of position) new a.0.1) (parent_of position) items a.0.0 there in
+      let c = counts-at (put_in (offset_of position) new) a.0.1 0 (in_items new) (put_in-counts (offset_of position) new a.0.1) (parent_of position)
+      items a.0.0 there in
       more-by (in_items new) items cells a.0.0 cells made a.2 (omega (arith, c))
   effect-counts items cells (move (in_tree from) count (in_tree to)) made e =
       let target = carry_remove from count to in
-      let last : List Item × List Item → Result State Fault = λ taken. ok_or (at (parent_of target) (put_in (offset_of target) taken.1) taken.0) no_place >>= (λ m. Ok (m.0, cells)) in
-      let next : List Item × List Item → Result State Fault = λ taken. ok_or (room_at items to) no_place >>= (λ _. check (not (is_in_run from count to)) into_itself >>= (λ _. last taken)) in
+      let last : List Item × List Item → Result State Fault = λ taken. ok_or (at (parent_of target) (put_in (offset_of target) taken.1) taken.0)
+      no_place >>= (λ m. Ok (m.0, cells)) in
+      let next : List Item × List Item → Result State Fault = λ taken. ok_or (room_at items to) no_place
+      >>= (λ _. check (not (is_in_run from count to)) into_itself >>= (λ _. last taken)) in
       let a = step-ok (ok_or (at (parent_of from) (take_out (offset_of from) count) items) no_place) next made e in
       let taken = ok_or-some (at (parent_of from) (take_out (offset_of from) count) items) no_place a.0 a.1 in
       let b = step-ok (ok_or (room_at items to) no_place) (λ _. check (not (is_in_run from count to)) into_itself >>= (λ _. last a.0)) made a.2 in
       let c = step-ok (check (not (is_in_run from count to)) into_itself) (λ _. last a.0) made b.2 in
       let d = step-ok (ok_or (at (parent_of target) (put_in (offset_of target) a.0.1) a.0.0) no_place) (λ m. Ok (m.0, cells)) made c.2 in
       let put_there = ok_or-some (at (parent_of target) (put_in (offset_of target) a.0.1) a.0.0) no_place d.0 d.1 in
-      let gone = counts-at (take_out (offset_of from) count) a.0.1 (in_items a.0.1) 0 (take_out-counts (offset_of from) count a.0.1) (parent_of from) items a.0.0 taken in
-      let come = counts-at (put_in (offset_of target) a.0.1) d.0.1 0 (in_items a.0.1) (put_in-counts (offset_of target) a.0.1 d.0.1) (parent_of target) a.0.0 d.0.0 put_there in
+      let gone = counts-at (take_out (offset_of from) count) a.0.1 (in_items a.0.1) 0 (take_out-counts (offset_of from) count a.0.1) (parent_of from)
+      items a.0.0 taken in
+      let come = counts-at (put_in (offset_of target) a.0.1) d.0.1 0 (in_items a.0.1) (put_in-counts (offset_of target) a.0.1 d.0.1) (parent_of target)
+      a.0.0 d.0.0 put_there in
       more-by 0 items cells d.0.0 cells made d.2 (omega (arith, gone, come))
   effect-counts items cells (move (in_tree from) count (in_cell number)) made e =
       let a = step-ok (ok_or (at (parent_of from) (take_out (offset_of from) count) items) no_place)
@@ -292,7 +308,8 @@ module _ (id : ℕ) where
       let taken = ok_or-some (at (parent_of from) (take_out (offset_of from) count) items) no_place a.0 a.1 in
       let b = step-ok (check (is_free cells number) (cell_state number)) (λ _. Ok (a.0.0, fill cells number a.0.1)) made a.2 in
       let free = check-true (is_free cells number) (cell_state number) b.0 b.1 in
-      let gone = counts-at (take_out (offset_of from) count) a.0.1 (in_items a.0.1) 0 (take_out-counts (offset_of from) count a.0.1) (parent_of from) items a.0.0 taken in
+      let gone = counts-at (take_out (offset_of from) count) a.0.1 (in_items a.0.1) 0 (take_out-counts (offset_of from) count a.0.1) (parent_of from)
+      items a.0.0 taken in
       let kept = fill-counts cells number a.0.1 free in
       more-by 0 items cells a.0.0 (fill cells number a.0.1) made b.2 (omega (arith, gone, kept))
   effect-counts items cells (move (in_cell number) count (in_tree to)) made e =
@@ -300,7 +317,8 @@ module _ (id : ℕ) where
       let a = step-ok (check (holds_count cells number count) (cell_state number))
       (λ _. ok_or (at (parent_of to) (put_in (offset_of to) run) items) no_place >>= (λ (m : List Item × Unit {0}). Ok (m.0, set cells number []))) made e in
       let full = check-true (holds_count cells number count) (cell_state number) a.0 a.1 in
-      let b = step-ok (ok_or (at (parent_of to) (put_in (offset_of to) run) items) no_place) (λ (m : List Item × Unit {0}). Ok (m.0, set cells number [])) made a.2 in
+      let b = step-ok (ok_or (at (parent_of to) (put_in (offset_of to) run) items) no_place)
+      (λ (m : List Item × Unit {0}). Ok (m.0, set cells number [])) made a.2 in
       let there = ok_or-some (at (parent_of to) (put_in (offset_of to) run) items) no_place b.0 b.1 in
       let come = counts-at (put_in (offset_of to) run) b.0.1 0 (in_items run) (put_in-counts (offset_of to) run b.0.1) (parent_of to) items b.0.0 there in
       let less = less-true number (length cells) (and-first (nat_lt number (length cells)) (length run == count) full) in
@@ -336,7 +354,8 @@ module _ (id : ℕ) where
       let a = step-ok (check (nat_le 2 (length position)) no_place) (λ _. ok_or (at above change items) no_place >>= tail) made e in
       let b = step-ok (ok_or (at above change items) no_place) tail made a.2 in
       let there = ok_or-some (at above change items) no_place b.0 b.1 in
-      let more_of = counts-at change b.0.1 0 (times id (new ∷ [])) (split-counts (offset_of (parent_of position)) (offset_of position) (like new) (times id (new ∷ [])) (like_bare new) b.0.1) above items b.0.0 there in
+      let more_of = counts-at change b.0.1 0 (times id (new ∷ []))
+      (split-counts (offset_of (parent_of position)) (offset_of position) (like new) (times id (new ∷ [])) (like_bare new) b.0.1) above items b.0.0 there in
       more-by (times id (new ∷ [])) items cells b.0.0 cells made b.2 (omega (arith, more_of))
   effect-counts items cells (split position (from_cell number)) made e =
       let above = parent_of (parent_of position) in
@@ -353,7 +372,8 @@ module _ (id : ℕ) where
       let is_held = shell-held held c.0 found in
       let d = step-ok (ok_or (at above (change c.0) items) no_place) last made c.2 in
       let there = ok_or-some (at above (change c.0) items) no_place d.0 d.1 in
-      let more_of = counts-at (change c.0) d.0.1 0 (in_one c.0) (split-counts (offset_of (parent_of position)) (offset_of position) (λ _. c.0) (in_one c.0) (λ _ _ _. (bare, refl)) d.0.1) above items d.0.0 there in
+      let more_of = counts-at (change c.0) d.0.1 0 (in_one c.0)
+      (split-counts (offset_of (parent_of position)) (offset_of position) (λ _. c.0) (in_one c.0) (λ _ _ _. (bare, refl)) d.0.1) above items d.0.0 there in
       let kept = empty-counts cells number (cell-there cells number c.0 is_held) in
       let one : in_items held ≡ in_items (c.0 ∷ []) = ap in_items is_held in
       let single = items-cons c.0 [] in
@@ -361,8 +381,10 @@ module _ (id : ℕ) where
   effect-counts items cells (merge right target number) made e =
       let change = merge_at (offset_of right) in
       let above = parent_of right in
-      let last : List Item × (Item × ℕ) → Result State Fault = λ m. check (is_free cells number) (cell_state number) >>= (λ _. Ok (m.0, fill cells number (m.1.0 ∷ []))) in
-      let next : List Item × (Item × ℕ) → Result State Fault = λ m. check (pointwise nat_eq target (above ++ (offset_of right - 1) ∷ m.1.1 ∷ [])) not_neighbours >>= (λ _. last m) in
+      let last : List Item × (Item × ℕ) → Result State Fault = λ m. check (is_free cells number) (cell_state number)
+      >>= (λ _. Ok (m.0, fill cells number (m.1.0 ∷ []))) in
+      let next : List Item × (Item × ℕ) → Result State Fault = λ m. check (pointwise nat_eq target (above ++ (offset_of right - 1) ∷ m.1.1 ∷ []))
+      not_neighbours >>= (λ _. last m) in
       let a = step-ok (check (nat_lt 0 (offset_of right)) not_neighbours) (λ _. ok_or (at above change items) not_neighbours >>= next) made e in
       let b = step-ok (ok_or (at above change items) not_neighbours) next made a.2 in
       let there = ok_or-some (at above change items) not_neighbours b.0 b.1 in

@@ -1,5 +1,6 @@
 -- Positions that are in a list of items, number by number, and what keeps them in it.
-use Rattle.std.proofs.Common.{◌≡◌, ◌≢◌, ℕ, ◌≤◌, inl, inr, List, [], ◌∷◌, length, Option, Some, None, IsSomeAnd, option_map, option_and_then, slice_get, slice_set, refl, sym, ap, ◌∙◌, subst, arith, length-set}
+use Rattle.std.proofs.Common.{◌≡◌, ◌≢◌, ℕ, ◌≤◌, inl, inr, List, [], ◌∷◌, length, Option, Some, None, IsSomeAnd, option_map, option_and_then, slice_get}
+use Rattle.std.proofs.Common.{slice_set, refl, sym, ap, ◌∙◌, subst, arith, length-set}
 use Rattle.std.specs.Prelude.{⊤}
 use Rattle.item_definitions.specs.Item.{Item, inner, with_inner}
 use Rattle.item_definitions.specs.Children.{Change, parent_of, offset_of, children_at, at, at_index, in_item}
@@ -30,7 +31,8 @@ inside-in xs items i (next ∷ path) there h = (items, there, h)
 
 -- a position that is below the first items of a list that is there
 abbrev Below : Option Item → List ℕ → Type 0
-Below o path = IsSomeAnd (option_map length (option_and_then (λ item. option_and_then (children_at (parent_of path)) (inner item)) o)) (λ count. offset_of path ≤ count)
+Below o path = IsSomeAnd (option_map length (option_and_then (λ item. option_and_then (children_at (parent_of path)) (inner item)) o))
+    (λ count. offset_of path ≤ count)
 
 -- the two ways to say it
 pub inside : (xs : List Item) (position : List ℕ) → IsIn xs position → Inside xs position
@@ -40,13 +42,15 @@ inside xs (index ∷ next ∷ path) h = go (slice_get xs index) refl h.1 (λ ite
   where
     through : (item : Item) (o : Option (List Item)) → slice_get xs index ≡ Some item → inner item ≡ o
         → IsSomeAnd (option_map length (option_and_then (children_at (parent_of (next ∷ path))) o)) (λ count. offset_of (next ∷ path) ≤ count)
-        → ((items : List Item) → IsSomeAnd (option_map length (children_at (parent_of (next ∷ path)) items)) (λ count. offset_of (next ∷ path) ≤ count) → Inside items (next ∷ path))
+        → ((items : List Item) → IsSomeAnd (option_map length (children_at (parent_of (next ∷ path)) items)) (λ count. offset_of (next ∷ path) ≤ count)
+        → Inside items (next ∷ path))
         → Inside xs (index ∷ next ∷ path)
     through item None there e below rec = absurd below
     through item (Some items) there e below rec = (items, ap (option_and_then inner) there ∙ e, rec items below)
 
     go : (o : Option Item) → slice_get xs index ≡ o → Below o (next ∷ path)
-        → ((items : List Item) → IsSomeAnd (option_map length (children_at (parent_of (next ∷ path)) items)) (λ count. offset_of (next ∷ path) ≤ count) → Inside items (next ∷ path))
+        → ((items : List Item) → IsSomeAnd (option_map length (children_at (parent_of (next ∷ path)) items)) (λ count. offset_of (next ∷ path) ≤ count)
+        → Inside items (next ∷ path))
         → Inside xs (index ∷ next ∷ path)
     go None e below rec = absurd below
     go (Some item) e below rec = through item (inner item) e refl below rec
@@ -56,14 +60,16 @@ placed xs [] h = absurd (h tt)
 placed xs (offset ∷ []) h = ((λ e. cc), h)
 placed xs (index ∷ next ∷ path) h = ((λ e. cc), go (slice_get xs index) h.1 (placed h.0 (next ∷ path) h.2).1)
   where
-    through : (o : Option (List Item)) → o ≡ Some h.0 → IsSomeAnd (option_map length (children_at (parent_of (next ∷ path)) h.0)) (λ count. offset_of (next ∷ path) ≤ count)
+    through : (o : Option (List Item)) → o ≡ Some h.0
+        → IsSomeAnd (option_map length (children_at (parent_of (next ∷ path)) h.0)) (λ count. offset_of (next ∷ path) ≤ count)
         → IsSomeAnd (option_map length (option_and_then (children_at (parent_of (next ∷ path))) o)) (λ count. offset_of (next ∷ path) ≤ count)
     through None e below = absurd cc
     through (Some items) e below =
         let same : items ≡ h.0 = cc in
         subst (λ is. IsSomeAnd (option_map length (children_at (parent_of (next ∷ path)) is)) (λ count. offset_of (next ∷ path) ≤ count)) (sym same) below
 
-    go : (o : Option Item) → option_and_then inner o ≡ Some h.0 → IsSomeAnd (option_map length (children_at (parent_of (next ∷ path)) h.0)) (λ count. offset_of (next ∷ path) ≤ count) → Below o (next ∷ path)
+    go : (o : Option Item) → option_and_then inner o ≡ Some h.0
+        → IsSomeAnd (option_map length (children_at (parent_of (next ∷ path)) h.0)) (λ count. offset_of (next ∷ path) ≤ count) → Below o (next ∷ path)
     go None e below = absurd cc
     go (Some item) e below = through (inner item) e below
 
@@ -80,7 +86,8 @@ pub record Through {R : Type 0} (xs : List Item) (i : ℕ) (change : Change R) (
   pub long : length ys ≡ length xs
   pub others : (j : ℕ) → i ≢ j → slice_get ys j ≡ slice_get xs j
 
-pub through : {R : Type 0} (xs : List Item) (i : ℕ) (change : Change R) (ys : List Item) (r : R) → at_index i (in_item change) xs ≡ Some (ys, r) → Through xs i change ys r
+pub through : {R : Type 0} (xs : List Item) (i : ℕ) (change : Change R) (ys : List Item) (r : R) → at_index i (in_item change) xs ≡ Some (ys, r)
+    → Through xs i change ys r
 through {R = R} xs i change ys r e =
     let a = then-some (λ item. option_map (λ (made : Item × R). (slice_set xs i made.0, made.1)) (in_item change item)) (slice_get xs i) (ys, r) e in
     let b = map-some (λ (made : Item × R). (slice_set xs i made.0, made.1)) (in_item change a.0) (ys, r) a.2 in
@@ -95,7 +102,8 @@ through {R = R} xs i change ys r e =
       then_found = ap (λ zs. slice_get zs i) (sym whole) ∙ get-set xs i a.0 (with_inner d.0.0 a.0) a.1;
       there = ap (option_and_then inner) a.1 ∙ c.1;
       made = d.1 ∙ ap (λ v. Some (d.0.0, v)) (ap (λ (p : Item × R). p.1) d.2 ∙ ap (λ (p : List Item × R). p.1) b.2);
-      then_there = ap (λ zs. in_at zs i) (sym whole) ∙ ap (option_and_then inner) (get-set xs i a.0 (with_inner d.0.0 a.0) a.1) ∙ inner-with_inner a.0 c.0 d.0.0 c.1;
+      then_there = ap (λ zs. in_at zs i) (sym whole) ∙ ap (option_and_then inner) (get-set xs i a.0 (with_inner d.0.0 a.0) a.1)
+          ∙ inner-with_inner a.0 c.0 d.0.0 c.1;
       long = ap length (sym whole) ∙ length-set xs i (with_inner d.0.0 a.0);
       others = λ j differ. ap (λ zs. slice_get zs j) (sym whole) ∙ get-other xs i j (with_inner d.0.0 a.0) differ;
     }
@@ -127,7 +135,8 @@ keeps (s ∷ parent) change rule none r level xs ys (i ∷ next ∷ path) e h =
     elim (decide s i) [
       | inl same ↦ (let there : in_at xs s ≡ Some h.0 = ap (in_at xs) same ∙ h.1 in
           let items : h.0 ≡ t.items = (let f : Some h.0 ≡ Some t.items = sym there ∙ t.there in cc) in
-          let deep : Inside t.new (within parent rule (next ∷ path)) = keeps parent change rule none r level t.items t.new (next ∷ path) t.made (subst (λ is. Inside is (next ∷ path)) items h.2) in
+          let deep : Inside t.new (within parent rule (next ∷ path)) = keeps parent change rule none r level t.items t.new (next ∷ path) t.made
+          (subst (λ is. Inside is (next ∷ path)) items h.2) in
           subst (Inside ys) (sym (ap (λ v. within (s ∷ parent) rule (v ∷ next ∷ path)) (sym same) ∙ within-same s parent (next ∷ path) rule))
           (inside-in ys t.new s (within parent rule (next ∷ path)) t.then_there deep))
       | inr apart ↦ subst (Inside ys) (sym (within-other s i parent (next ∷ path) rule apart)) (inside-at xs ys i i next path (t.others i apart) h)

@@ -1,5 +1,6 @@
 -- Each change of one list keeps positions in it, by the rule for its parent.
-use Rattle.std.proofs.Common.{◌≡◌, ℕ, ◌+◌, ◌-◌, ◌<◌, ◌≤◌, Bool, true, false, nat_le, if◌then◌else◌, List, [], ◌∷◌, ◌++◌, length, Option, Some, refl, sym, ap, ◌∙◌, subst, arith, append-nil}
+use Rattle.std.proofs.Common.{◌≡◌, ℕ, ◌+◌, ◌-◌, ◌<◌, ◌≤◌, Bool, true, false, nat_le, if◌then◌else◌, List, [], ◌∷◌, ◌++◌, length, Option, Some, refl, sym, ap}
+use Rattle.std.proofs.Common.{◌∙◌, subst, arith, append-nil}
 use Rattle.std.specs.Option.{option_map_or}
 use Rattle.std.proofs.lemmas.Bool.Decides.{nat_tests}
 use Rattle.item_definitions.specs.Item.{Item}
@@ -12,8 +13,11 @@ use Rattle.document_definitions.proofs.Parted.{Parted, replacing, lengths, room,
 pub parted-in : (offset : ℕ) (new xs ys : List Item) (r : Unit {0}) → put_in offset new xs ≡ Some (ys, r) → Parted offset 0 xs ys [] new
 parted-in offset new xs ys r e = (let p = replacing offset 0 (λ items. Some (new ++ items, tt)) xs ys r e in plain p.run p.new p.gives p.parted)
   where
-    plain : (run made : List Item) → ◌≡◌ {A = Option (List Item × Unit {0})} (Some (new ++ run, tt)) (Some (made, r)) → Parted offset 0 xs ys run made → Parted offset 0 xs ys [] new
-    plain [] made e p = (let same : new ++ [] ≡ made = ap (λ (o : Option (List Item × Unit {0})). option_map_or (λ (m : List Item × Unit {0}). m.0) o []) e in subst (Parted offset 0 xs ys []) (sym same ∙ append-nil new) p)
+    plain : (run made : List Item) → ◌≡◌ {A = Option (List Item × Unit {0})} (Some (new ++ run, tt)) (Some (made, r)) → Parted offset 0 xs ys run made
+        → Parted offset 0 xs ys [] new
+    plain [] made e p = (let same : new ++ []
+        ≡ made = ap (λ (o : Option (List Item × Unit {0})). option_map_or (λ (m : List Item × Unit {0}). m.0) o []) e
+        in subst (Parted offset 0 xs ys []) (sym same ∙ append-nil new) p)
     plain (x ∷ run) made e p = (let m = p.many in absurd (omega (arith, m)))
 
 -- where items went
@@ -25,7 +29,8 @@ parted-out offset count xs ys gone e =
     subst (λ n. Parted offset count xs ys gone n) (sym new) (subst (λ g. Parted offset count xs ys g p.new) run p.parted)
 
 -- items that come in
-pub insert-keeps : (offset : ℕ) (new : List Item) (stick : Stick) (xs ys : List Item) (r : Unit {0}) (position : List ℕ) → put_in offset new xs ≡ Some (ys, r) → Inside xs position
+pub insert-keeps : (offset : ℕ) (new : List Item) (stick : Stick) (xs ys : List Item) (r : Unit {0}) (position : List ℕ) → put_in offset new xs
+    ≡ Some (ys, r) → Inside xs position
     → Inside ys (rule_insert offset (length new) stick position)
 insert-keeps offset new stick xs ys r [] e h = absurd (h tt)
 insert-keeps offset new stick xs ys r (o ∷ []) e h = go (comes_before offset stick o []) (parted-in offset new xs ys r e)
@@ -36,7 +41,8 @@ insert-keeps offset new stick xs ys r (o ∷ []) e h = go (comes_before offset s
 insert-keeps offset new stick xs ys r (i ∷ next ∷ path) e h = go (nat_le offset i) refl (parted-in offset new xs ys r e)
   where
     go : (t : Bool) → t ≡ nat_le offset i → Parted offset 0 xs ys [] new → Inside ys ((if t then i + length new else i) ∷ next ∷ path)
-    go true t p = (let least : offset ≤ i = grind (arith, nat_tests) in inside-at xs ys i (i + length new) next path (get-behind p i (i + length new) (i - offset) (omega (arith, least)) (omega (arith, least))) h)
+    go true t p = (let least : offset ≤ i = grind (arith, nat_tests)
+        in inside-at xs ys i (i + length new) next path (get-behind p i (i + length new) (i - offset) (omega (arith, least)) (omega (arith, least))) h)
     go false t p = inside-at xs ys i i next path (get-before p i (grind (arith, nat_tests))) h
 
 -- items that go

@@ -17,7 +17,8 @@ use Rattle.document_definitions.proofs.Inside.{Inside, in_at, inside}
 use Rattle.document_definitions.proofs.Ranges.{carried-ends}
 
 -- what is in an element of a list is smaller than the list
-within-list : (xs : List Item) (i : ℕ) (items : List Item) → in_at xs i ≡ Some items → (depth_of items + 1 ≤ depth_of xs) × (count_of items + 1 ≤ count_of xs) × (i < length xs)
+within-list : (xs : List Item) (i : ℕ) (items : List Item) → in_at xs i ≡ Some items → (depth_of items + 1 ≤ depth_of xs)
+    × (count_of items + 1 ≤ count_of xs) × (i < length xs)
 within-list [] i items e = absurd cc
 within-list (x ∷ xs) zero items e = (let w = within-item x items e in (omega (arith, w.0), omega (arith, w.1), omega arith))
 within-list (x ∷ xs) (suc i) items e = (let w = within-list xs i items e in (omega (arith, w.0), omega (arith, w.1), omega (arith, w.2)))
@@ -45,10 +46,12 @@ pub keeps_limits : (items : List Item) (position : List ℕ) → IsLimited items
 keeps_limits items position limits h = within-limits items position limits (inside items position h)
 
 -- what an operation makes keeps to the limits
-pub after-limited : (items : List Item) (cells : List (List Item)) (operation : Operation) (made : State) → after items cells operation ≡ Ok made → IsLimited made.0
+pub after-limited : (items : List Item) (cells : List (List Item)) (operation : Operation) (made : State) → after items cells operation ≡ Ok made
+    → IsLimited made.0
 after-limited items cells operation made e =
     let a = step-ok (effect items cells operation) limited made e in
-    let b = step-ok (check (nat_le (count_of a.0.0) most_items) (too_large (count_of a.0.0))) (λ _. check (nat_le (depth_of a.0.0) most_levels) (too_deep (depth_of a.0.0)) >>= (λ _. Ok a.0)) made a.2 in
+    let b = step-ok (check (nat_le (count_of a.0.0) most_items) (too_large (count_of a.0.0)))
+    (λ _. check (nat_le (depth_of a.0.0) most_levels) (too_deep (depth_of a.0.0)) >>= (λ _. Ok a.0)) made a.2 in
     let few = check-true (nat_le (count_of a.0.0) most_items) (too_large (count_of a.0.0)) b.0 b.1 in
     let c = step-ok (check (nat_le (depth_of a.0.0) most_levels) (too_deep (depth_of a.0.0))) (λ _. Ok a.0) made b.2 in
     let flat = check-true (nat_le (depth_of a.0.0) most_levels) (too_deep (depth_of a.0.0)) c.0 c.1 in
@@ -59,9 +62,13 @@ after-limited items cells operation made e =
     yes a b e = grind (arith, nat_tests)
 
 -- so the ends of a range in the tree are carried to positions within the limits
-pub carried_within : (items : List Item) (cells : List (List Item)) (operation : Operation) (made : State) (range : Range) → HasPlaces operation → after items cells operation ≡ Ok made
-    → IsRange (child_count items) range → IsWithinLimits (carried_ends (shift_of operation) range).start × IsWithinLimits (carried_ends (shift_of operation) range).end
+pub carried_within : (items : List Item) (cells : List (List Item)) (operation : Operation) (made : State) (range : Range) → HasPlaces operation
+    → after items cells operation ≡ Ok made
+    → IsRange (child_count items) range → IsWithinLimits (carried_ends (shift_of operation) range).start
+    × IsWithinLimits (carried_ends (shift_of operation) range).end
 carried_within items cells operation made range places e h =
     let limits = after-limited items cells operation made e in
-    let ends = carried-ends items cells operation made range places e h in
-    (within-limits made.0 (carried_ends (shift_of operation) range).start limits ends.0, within-limits made.0 (carried_ends (shift_of operation) range).end limits ends.1)
+    let ends = carried-ends items cells operation made range places e h in (
+      within-limits made.0 (carried_ends (shift_of operation) range).start limits ends.0,
+      within-limits made.0 (carried_ends (shift_of operation) range).end limits ends.1,
+    )

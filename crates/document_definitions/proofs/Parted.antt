@@ -1,5 +1,6 @@
 -- A list in which some items that stand next to each other are replaced.
-use Rattle.std.proofs.Common.{◌≡◌, ℕ, zero, suc, ◌+◌, ◌<◌, ◌≤◌, List, [], ◌∷◌, ◌++◌, length, take, drop, Some, slice_get, refl, sym, ap, ◌∙◌, arith, length-append, length-take, length-drop}
+use Rattle.std.proofs.Common.{◌≡◌, ℕ, zero, suc, ◌+◌, ◌<◌, ◌≤◌, List, [], ◌∷◌, ◌++◌, length, take, drop, Some, slice_get, refl, sym, ap, ◌∙◌, arith}
+use Rattle.std.proofs.Common.{length-append, length-take, length-drop}
 use Rattle.item_definitions.specs.Item.{Item}
 use Rattle.item_definitions.specs.Children.{Change}
 use Rattle.operation_definitions.specs.Level.{replace}
@@ -28,7 +29,8 @@ pub record Replacing {R : Type 0} (offset count : ℕ) (change : Change R) (xs y
   pub gives : change run ≡ Some (new, r)
   pub parted : Parted offset count xs ys run new
 
-pub replacing : {R : Type 0} (offset count : ℕ) (change : Change R) (xs ys : List Item) (r : R) → replace offset count change xs ≡ Some (ys, r) → Replacing offset count change xs ys r
+pub replacing : {R : Type 0} (offset count : ℕ) (change : Change R) (xs ys : List Item) (r : R) → replace offset count change xs ≡ Some (ys, r)
+    → Replacing offset count change xs ys r
 replacing offset count change xs ys r e =
     let h = replaced offset count change xs ys r e in
     record {
@@ -48,7 +50,17 @@ replacing offset count change xs ys r e =
 module _ {offset count : ℕ} {xs ys run new : List Item} (p : Parted offset count xs ys run new) where
   -- the two lengths
   pub lengths : length ys + count ≡ length xs + length new
-  lengths = omega (arith, ap length p.before, ap length p.after, length-append p.front (run ++ p.back), length-append run p.back, length-append p.front (new ++ p.back), length-append new p.back, p.long, p.many)
+  lengths = omega (
+    arith,
+    ap length p.before,
+    ap length p.after,
+    length-append p.front (run ++ p.back),
+    length-append run p.back,
+    length-append p.front (new ++ p.back),
+    length-append new p.back,
+    p.long,
+    p.many,
+  )
 
   pub room : offset + count ≤ length xs
   room = omega (arith, ap length p.before, length-append p.front (run ++ p.back), length-append run p.back, p.long, p.many)
@@ -57,17 +69,21 @@ module _ {offset count : ℕ} {xs ys run new : List Item} (p : Parted offset cou
   pub get-before : (i : ℕ) → i < offset → slice_get ys i ≡ slice_get xs i
   get-before i less =
       let within : i < length p.front = omega (arith, p.long, less) in
-      ap (λ zs. slice_get zs i) p.after ∙ get-front p.front (new ++ p.back) i within ∙ sym (ap (λ zs. slice_get zs i) p.before ∙ get-front p.front (run ++ p.back) i within)
+      ap (λ zs. slice_get zs i) p.after ∙ get-front p.front (new ++ p.back) i within
+      ∙ sym (ap (λ zs. slice_get zs i) p.before ∙ get-front p.front (run ++ p.back) i within)
 
   -- an item behind them
   pub get-behind : (i j k : ℕ) → i ≡ offset + count + k → j ≡ offset + length new + k → slice_get ys j ≡ slice_get xs i
   get-behind i j k e f =
-      ap (λ zs. slice_get zs j) p.after ∙ get-back p.front (new ++ p.back) j (length new + k) (omega (arith, f, p.long)) ∙ get-back new p.back (length new + k) k refl
-      ∙ sym (ap (λ zs. slice_get zs i) p.before ∙ get-back p.front (run ++ p.back) i (count + k) (omega (arith, e, p.long)) ∙ get-back run p.back (count + k) k (omega (arith, p.many)))
+      ap (λ zs. slice_get zs j) p.after ∙ get-back p.front (new ++ p.back) j (length new + k) (omega (arith, f, p.long))
+      ∙ get-back new p.back (length new + k) k refl
+      ∙ sym (ap (λ zs. slice_get zs i) p.before ∙ get-back p.front (run ++ p.back) i (count + k) (omega (arith, e, p.long))
+      ∙ get-back run p.back (count + k) k (omega (arith, p.many)))
 
   -- an item of them, and of what stands in their place
   pub get-old : (i k : ℕ) → k < count → i ≡ offset + k → slice_get xs i ≡ slice_get run k
-  get-old i k less e = ap (λ zs. slice_get zs i) p.before ∙ get-back p.front (run ++ p.back) i k (omega (arith, e, p.long)) ∙ get-front run p.back k (omega (arith, less, p.many))
+  get-old i k less e = ap (λ zs. slice_get zs i) p.before ∙ get-back p.front (run ++ p.back) i k (omega (arith, e, p.long))
+      ∙ get-front run p.back k (omega (arith, less, p.many))
 
   pub get-new : (i k : ℕ) → k < length new → i ≡ offset + k → slice_get ys i ≡ slice_get new k
   get-new i k less e = ap (λ zs. slice_get zs i) p.after ∙ get-back p.front (new ++ p.back) i k (omega (arith, e, p.long)) ∙ get-front new p.back k less

@@ -1,5 +1,6 @@
 -- Each operation keeps a sound document sound.
-use Rattle.std.proofs.Common.{◌≡◌, ℕ, zero, suc, ◌+◌, ◌<◌, ◌≤◌, ◌^◌, max, Bool, true, false, not, nat_eq, ◌&&◌, ◌==◌, if◌then◌else◌, List, [], ◌∷◌, ◌++◌, Some, None, All, IsTrue, Ok, refl, sym, ap, ◌∙◌, subst, arith}
+use Rattle.std.proofs.Common.{◌≡◌, ℕ, zero, suc, ◌+◌, ◌<◌, ◌≤◌, ◌^◌, max, Bool, true, false, not, nat_eq, ◌&&◌, ◌==◌, if◌then◌else◌, List, [], ◌∷◌, ◌++◌, Some}
+use Rattle.std.proofs.Common.{None, All, IsTrue, Ok, refl, sym, ap, ◌∙◌, subst, arith}
 use Rattle.std.specs.List.{flat_map, IsDistinct, AllByRecursion}
 use Rattle.std.specs.Ordering.{is_lt, match_ordering}
 use Rattle.std.specs.declared.cmp.Ordering.{Ordering}
@@ -95,7 +96,8 @@ raised-above : (ids : List ℕ) (next id : ℕ) → 1 ≤ times id ids → id < 
 raised-above [] next id h = absurd (omega (arith, h))
 raised-above (other ∷ ids) next id h = go (id == other) refl h (raised-above ids (max next (other + 1)) id)
   where
-    go : (t : Bool) → (id == other) ≡ t → 1 ≤ (if t then 1 else 0) + times id ids → (1 ≤ times id ids → id < raised (max next (other + 1)) ids) → id < raised (max next (other + 1)) ids
+    go : (t : Bool) → (id == other) ≡ t → 1 ≤ (if t then 1 else 0) + times id ids → (1 ≤ times id ids → id < raised (max next (other + 1)) ids)
+        → id < raised (max next (other + 1)) ids
     go true t h rec = (let same = equal id other t in let rest = raised-least ids (max next (other + 1)) in omega (arith, same, rest))
     go false t h rec = rec (omega (arith, h))
 
@@ -106,7 +108,9 @@ raised-most (id ∷ ids) next most all =
     raised-most ids (max next (id + 1)) (omega (arith, most, first.1)) (All-tail (λ id. (1 ≤ id) × (id < 2 ^ 63)) id ids all)
 
 -- markers that are carried
-carried-in : (shift : Shift) (xs ys : List Item) (all : Markers) → ((range : Range) → IsRange (child_count xs) range → IsRange (child_count ys) (carry_range shift range)) → AreIn xs all → AreIn ys (markers.carried shift all)
+carried-in : (shift : Shift) (xs ys : List Item) (all : Markers)
+    → ((range : Range) → IsRange (child_count xs) range → IsRange (child_count ys) (carry_range shift range)) → AreIn xs all
+    → AreIn ys (markers.carried shift all)
 carried-in shift xs ys [] keeps h = λ k d less. absurd (omega (arith, less))
 carried-in shift xs ys (entry ∷ all) keeps h =
     All-cons (λ (e : List ℕ × Range). IsRange (child_count ys) e.1) (entry.0, carry_range shift entry.1) (markers.carried shift all)
@@ -126,14 +130,16 @@ pub carried_ordered : (shift : Shift) (all : Markers) → IsOrdered all → IsOr
 carried_ordered shift all h = still_sorted shift all ∙ h
 
 -- a marker with a new range, or taken out
-put-in_all : (xs : List Item) (name : List ℕ) (range : Range) (all : Markers) → IsRange (child_count xs) range → AreIn xs all → AreIn xs (with_value name range all)
+put-in_all : (xs : List Item) (name : List ℕ) (range : Range) (all : Markers) → IsRange (child_count xs) range → AreIn xs all
+    → AreIn xs (with_value name range all)
 put-in_all xs name range [] there h = All-cons (λ (e : List ℕ × Range). IsRange (child_count xs) e.1) (name, range) [] there h
 put-in_all xs name range (entry ∷ all) there h = go (name_cmp name entry.0) (put-in_all xs name range all there (All-tail In entry all h))
   where
     In : List ℕ × Range → Type 0
     In e = IsRange (child_count xs) e.1
 
-    go : (o : Ordering) → AreIn xs (with_value name range all) → AreIn xs (by_order o ((name, range) ∷ entry ∷ all) ((entry.0, range) ∷ all) (entry ∷ with_value name range all))
+    go : (o : Ordering) → AreIn xs (with_value name range all)
+        → AreIn xs (by_order o ((name, range) ∷ entry ∷ all) ((entry.0, range) ∷ all) (entry ∷ with_value name range all))
     go Less rest = All-cons In (name, range) (entry ∷ all) there h
     go Equal rest = All-cons In (entry.0, range) all there (All-tail In entry all h)
     go Greater rest = All-cons In entry (with_value name range all) (All-head In entry all h) rest
@@ -163,11 +169,13 @@ selected-in ys range backward there = (there, λ collapsed. forward (is_collapse
     forward true h false = refl
     forward false h backward = cc
 
-selection-in : (shift : Shift) (xs ys : List Item) (selection : Selection) → (IsRange (child_count xs) selection.range → IsRange (child_count ys) (carry_range shift selection.range))
+selection-in : (shift : Shift) (xs ys : List Item) (selection : Selection)
+    → (IsRange (child_count xs) selection.range → IsRange (child_count ys) (carry_range shift selection.range))
     → IsSelection xs selection → IsSelection ys (selections.carried shift selection)
 selection-in shift xs ys selection keeps h = go (same_range (carry_range shift selection.range) selection.range) refl
   where
-    go : (t : Bool) → same_range (carry_range shift selection.range) selection.range ≡ t → IsSelection ys (if t then selection else selected (carry_range shift selection.range) selection.backward)
+    go : (t : Bool) → same_range (carry_range shift selection.range) selection.range ≡ t
+        → IsSelection ys (if t then selection else selected (carry_range shift selection.range) selection.backward)
     go true t = (subst (IsRange (child_count ys)) (same-range (carry_range shift selection.range) selection.range t) (keeps h.0), h.1)
     go false t = selected-in ys (carry_range shift selection.range) selection.backward (keeps h.0)
 
@@ -179,7 +187,8 @@ overrides-ordered shift selection h = go (same_range (carry_range shift selectio
     go false = refl
 
 -- the ids of what an operation makes: those from before, and what it brings
-made-times : (operation : Operation) (state : State) (made : List Item × List (List Item)) → after state.document.items state.cells operation ≡ Ok made → (id : ℕ)
+made-times : (operation : Operation) (state : State) (made : List Item × List (List Item)) → after state.document.items state.cells operation ≡ Ok made
+    → (id : ℕ)
     → times id (ids_in made.0 made.1) ≡ times id (brought operation ++ ids_in state.document.items state.cells)
 made-times operation state made e id =
     let a = effect-counts id state.document.items state.cells operation made (after-effect state.document.items state.cells operation made e) in
@@ -189,9 +198,11 @@ made-times operation state made e id =
     omega (arith, a, b, c, d)
 
 -- all markers but the one that is named are carried, and none is named by another operation
-markers-in : (operation : Operation) (state : State) (made : List Item × List (List Item)) → HasPlaces operation → IsWelcome operation state → after state.document.items state.cells operation ≡ Ok made
+markers-in : (operation : Operation) (state : State) (made : List Item × List (List Item)) → HasPlaces operation → IsWelcome operation state
+    → after state.document.items state.cells operation ≡ Ok made
     → AreIn state.document.items state.document.markers → AreIn made.0 (markers_after operation state.document.markers)
-markers-in operation state made places fits e h = go operation fits.ranged (λ range there. keeps_ranges state.document.items state.cells operation made range places e there) (same operation e)
+markers-in operation state made places fits e h =
+    go operation fits.ranged (λ range there. keeps_ranges state.document.items state.cells operation made range places e there) (same operation e)
   where
     all : Markers
     all = state.document.markers
@@ -202,7 +213,8 @@ markers-in operation state made places fits e h = go operation fits.ranged (λ r
     Stays operation = Unit {0}
 
     same : (operation : Operation) → after state.document.items state.cells operation ≡ Ok made → Stays operation
-    same (marker name old new) e = pair-first (state.document.items, state.cells) made (after-effect state.document.items state.cells (marker name old new) made e)
+    same (marker name old new) e = pair-first (state.document.items, state.cells) made
+        (after-effect state.document.items state.cells (marker name old new) made e)
     same (insert position new) e = tt
     same (move from count to) e = tt
     same (attribute range key old new) e = tt
@@ -215,7 +227,8 @@ markers-in operation state made places fits e h = go operation fits.ranged (λ r
 
     go : (operation : Operation) → IsMarkerIn state.document.items operation → Keeps operation → Stays operation → AreIn made.0 (markers_after operation all)
     go (marker name old None) ranged keeps stays = subst (λ xs. AreIn xs (without name all)) stays (taken-from_all state.document.items name all h)
-    go (marker name old (Some range)) ranged keeps stays = subst (λ xs. AreIn xs (with_value name range all)) stays (put-in_all state.document.items name range all ranged h)
+    go (marker name old (Some range)) ranged keeps stays = subst (λ xs. AreIn xs (with_value name range all)) stays
+        (put-in_all state.document.items name range all ranged h)
     go (insert position new) ranged keeps stays = carried-in (shift_of (insert position new)) state.document.items made.0 all keeps h
     go (move from count to) ranged keeps stays = carried-in (shift_of (move from count to)) state.document.items made.0 all keeps h
     go (attribute range key old new) ranged keeps stays = carried-in (shift_of (attribute range key old new)) state.document.items made.0 all keeps h
@@ -233,7 +246,8 @@ markers-named (rename path old new) all h = carried_ordered (shift_of (rename pa
 markers-named (split position source) all h = carried_ordered (shift_of (split position source)) all h
 markers-named (merge right target cell) all h = carried_ordered (shift_of (merge right target cell)) all h
 
-changed-sound : (operation : Operation) (state : State) (made : List Item × List (List Item)) → IsSound state → HasPlaces operation → IsWelcome operation state → after state.document.items state.cells operation ≡ Ok made
+changed-sound : (operation : Operation) (state : State) (made : List Item × List (List Item)) → IsSound state → HasPlaces operation
+    → IsWelcome operation state → after state.document.items state.cells operation ≡ Ok made
     → IsSound (changed operation state made)
 changed-sound operation state made sound places fits e =
     let next = state.document.next_id in
@@ -243,29 +257,37 @@ changed-sound operation state made sound places fits e =
     let once = at_most_once (brought operation ++ old) fits.fresh in
     record {
       distinct = distinct_from ids (λ id. (let a = counts id in let b = once id in omega (arith, a, b)));
-      drawn = each_from (λ id. (1 ≤ id) × (id < raised next (brought operation))) ids (λ id here. known id (let a = counts id in let b = times-append id (brought operation) old in omega (arith, a, b, here)));
+      drawn = each_from (λ id. (1 ≤ id) × (id < raised next (brought operation))) ids
+          (λ id here. known id (let a = counts id in let b = times-append id (brought operation) old in omega (arith, a, b, here)));
       next = raised-most (brought operation) next sound.next fits.known;
       some = (let least = raised-least (brought operation) next in let first = sound.some in omega (arith, least, first));
       markers = markers-in operation state made places fits e sound.markers;
       named = markers-named operation state.document.markers sound.named;
-      selection = selection-in (shift_of operation) state.document.items made.0 state.document.selection (keeps_ranges state.document.items state.cells operation made state.document.selection.range places e) sound.selection;
+      selection = selection-in (shift_of operation) state.document.items made.0 state.document.selection
+          (keeps_ranges state.document.items state.cells operation made state.document.selection.range places e) sound.selection;
       keyed = overrides-ordered (shift_of operation) state.document.selection sound.keyed;
       limited = after-limited state.document.items state.cells operation made e;
     }
   where
-    known : (id : ℕ) → 1 ≤ times id (brought operation) + times id (ids_in state.document.items state.cells) → (1 ≤ id) × (id < raised state.document.next_id (brought operation))
+    known : (id : ℕ) → 1 ≤ times id (brought operation) + times id (ids_in state.document.items state.cells)
+        → (1 ≤ id) × (id < raised state.document.next_id (brought operation))
     known id here = go (times id (brought operation)) refl here
       where
-        go : (n : ℕ) → times id (brought operation) ≡ n → 1 ≤ n + times id (ids_in state.document.items state.cells) → (1 ≤ id) × (id < raised state.document.next_id (brought operation))
+        go : (n : ℕ) → times id (brought operation) ≡ n → 1 ≤ n + times id (ids_in state.document.items state.cells)
+            → (1 ≤ id) × (id < raised state.document.next_id (brought operation))
         go zero e here =
             let was = of_each (λ id. (1 ≤ id) × (id < state.document.next_id)) (ids_in state.document.items state.cells) sound.drawn id (omega (arith, here)) in
             let least = raised-least (brought operation) state.document.next_id in
             (was.0, omega (arith, was.1, least))
         go (suc n) e here =
-            let came : 1 ≤ times id (brought operation) = omega (arith, e) in
-            ((of_each (λ id. (1 ≤ id) × (id < 2 ^ 63)) (brought operation) fits.known id came).0, raised-above (brought operation) state.document.next_id id came)
+            let came : 1 ≤ times id (brought operation) = omega (arith, e) in (
+              (of_each (λ id. (1 ≤ id) × (id < 2 ^ 63)) (brought operation) fits.known id came).0,
+              raised-above (brought operation)
+                  state.document.next_id id came,
+            )
 
-pub keeps_soundness : (operation : Operation) (state new : State) → IsSound state → HasPlaces operation → IsWelcome operation state → applied operation state ≡ Ok new → IsSound new
+pub keeps_soundness : (operation : Operation) (state new : State) → IsSound state → HasPlaces operation → IsWelcome operation state
+    → applied operation state ≡ Ok new → IsSound new
 keeps_soundness operation state new sound places fits e =
     let a = step-ok (after state.document.items state.cells operation) (λ made. Ok (changed operation state made)) new e in
     let same : changed operation state a.0 ≡ new = cc in

@@ -1,5 +1,6 @@
 -- Items that stand at a path, number by number, and what leaves them in the tree.
-use Rattle.std.proofs.Common.{◌≡◌, ◌≢◌, ℕ, zero, suc, ◌+◌, ◌-◌, ◌<◌, ◌≤◌, inl, inr, Bool, true, false, ◌&&◌, nat_lt, nat_le, ◌==◌, if◌then◌else◌, List, [], ◌∷◌, ◌++◌, length, take, drop, Some, None, option_map, option_and_then, slice_get, refl, sym, ap, ◌∙◌, subst, arith, length-take}
+use Rattle.std.proofs.Common.{◌≡◌, ◌≢◌, ℕ, zero, suc, ◌+◌, ◌-◌, ◌<◌, ◌≤◌, inl, inr, Bool, true, false, ◌&&◌, nat_lt, nat_le, ◌==◌, if◌then◌else◌, List, [], ◌∷◌}
+use Rattle.std.proofs.Common.{◌++◌, length, take, drop, Some, None, option_map, option_and_then, slice_get, refl, sym, ap, ◌∙◌, subst, arith, length-take}
 use Rattle.std.specs.Prelude.{⊤}
 use Rattle.std.proofs.lemmas.Bool.Decides.{nat_tests}
 use Rattle.std.proofs.lemmas.List.{take-append-drop}
@@ -25,11 +26,13 @@ Stands head xs [] told = ¬ ⊤
 Stands head xs (index ∷ []) told = option_map head (slice_get xs index) ≡ Some told
 Stands head xs (index ∷ next ∷ path) told = (items : List Item) × (in_at xs index ≡ Some items) × Stands head items (next ∷ path) told
 
-pub stands-at : (head : Item → Item) (xs ys : List Item) (i j : ℕ) (path : List ℕ) (told : Item) → slice_get ys j ≡ slice_get xs i → Stands head xs (i ∷ path) told → Stands head ys (j ∷ path) told
+pub stands-at : (head : Item → Item) (xs ys : List Item) (i j : ℕ) (path : List ℕ) (told : Item) → slice_get ys j ≡ slice_get xs i
+    → Stands head xs (i ∷ path) told → Stands head ys (j ∷ path) told
 stands-at head xs ys i j [] told same h = ap (option_map head) same ∙ h
 stands-at head xs ys i j (next ∷ path) told same h = (h.0, ap (option_and_then inner) same ∙ h.1, h.2)
 
-pub stands-in : (head : Item → Item) (xs items : List Item) (i : ℕ) (path : List ℕ) (told : Item) → in_at xs i ≡ Some items → Stands head items path told → Stands head xs (i ∷ path) told
+pub stands-in : (head : Item → Item) (xs items : List Item) (i : ℕ) (path : List ℕ) (told : Item) → in_at xs i ≡ Some items
+    → Stands head items path told → Stands head xs (i ∷ path) told
 stands-in head xs items i [] told there h = absurd (h tt)
 stands-in head xs items i (next ∷ path) told there h = (items, there, h)
 
@@ -61,9 +64,12 @@ rest-more s parent path rest e = ap (λ t. if t then rest_behind parent path els
     own s = grind (arith, nat_tests)
 
 -- A change of one list that keeps items keeps them in the tree when it is made in the element at a path.
-pub keeps : {R : Type 0} (head : Item → Item) → IsOfHead head → (parent : List ℕ) (change : Change R) (rule : List ℕ → List ℕ) (Kept : List ℕ → Type 0) → rule [] ≡ []
-    → (r : R) → ((xs ys : List Item) (path : List ℕ) (told : Item) → change xs ≡ Some (ys, r) → Kept path → Stands head xs path told → Stands head ys (rule path) told)
-    → (xs ys : List Item) (path : List ℕ) (told : Item) → at parent change xs ≡ Some (ys, r) → Keeps Kept parent path → Stands head xs path told → Stands head ys (within parent rule path) told
+pub keeps : {R : Type 0} (head : Item → Item) → IsOfHead head → (parent : List ℕ) (change : Change R) (rule : List ℕ → List ℕ) (Kept : List ℕ → Type 0)
+    → rule [] ≡ []
+    → (r : R) → ((xs ys : List Item) (path : List ℕ) (told : Item) → change xs ≡ Some (ys, r) → Kept path → Stands head xs path told
+    → Stands head ys (rule path) told)
+    → (xs ys : List Item) (path : List ℕ) (told : Item) → at parent change xs ≡ Some (ys, r) → Keeps Kept parent path → Stands head xs path told
+    → Stands head ys (within parent rule path) told
 keeps head apart [] change rule Kept none r level xs ys path told e kept h = level xs ys path told e (kept path refl) h
 keeps head apart (s ∷ parent) change rule Kept none r level xs ys [] told e kept h = absurd (h tt)
 keeps head apart (s ∷ parent) change rule Kept none r level xs ys (o ∷ []) told e kept h =
@@ -79,16 +85,20 @@ keeps head apart (s ∷ parent) change rule Kept none r level xs ys (i ∷ next 
     elim (decide s i) [
       | inl same ↦ (let there : in_at xs s ≡ Some h.0 = ap (in_at xs) same ∙ h.1 in
           let items : h.0 ≡ t.items = (let f : Some h.0 ≡ Some t.items = sym there ∙ t.there in cc) in
-          let below : Keeps Kept parent (next ∷ path) = λ rest f. kept rest (subst (λ v. rest_behind (s ∷ parent) (v ∷ next ∷ path) ≡ Some rest) same (rest-more s parent (next ∷ path) rest f)) in
+          let below : Keeps Kept parent (next ∷ path) =
+          λ rest f. kept rest (subst (λ v. rest_behind (s ∷ parent) (v ∷ next ∷ path) ≡ Some rest) same (rest-more s parent (next ∷ path) rest f)) in
           let deep : Stands head t.new (within parent rule (next ∷ path)) told =
-          keeps head apart parent change rule Kept none r level t.items t.new (next ∷ path) told t.made below (subst (λ is. Stands head is (next ∷ path) told) items h.2) in
+          keeps head apart parent change rule Kept none r level t.items t.new (next ∷ path) told t.made below
+          (subst (λ is. Stands head is (next ∷ path) told) items h.2) in
           subst (λ p. Stands head ys p told) (sym (ap (λ v. within (s ∷ parent) rule (v ∷ next ∷ path)) (sym same) ∙ within-same s parent (next ∷ path) rule))
           (stands-in head ys t.new s (within parent rule (next ∷ path)) told t.then_there deep))
-      | inr differ ↦ subst (λ p. Stands head ys p told) (sym (within-other s i parent (next ∷ path) rule differ)) (stands-at head xs ys i i (next ∷ path) told (t.others i differ) h)
+      | inr differ ↦ subst (λ p. Stands head ys p told) (sym (within-other s i parent (next ∷ path) rule differ))
+          (stands-at head xs ys i i (next ∷ path) told (t.others i differ) h)
     ]
 
 -- items that come in
-pub insert-stands : (head : Item → Item) (offset : ℕ) (new xs ys : List Item) (r : Unit {0}) (path : List ℕ) (told : Item) → put_in offset new xs ≡ Some (ys, r) → Stands head xs path told
+pub insert-stands : (head : Item → Item) (offset : ℕ) (new xs ys : List Item) (r : Unit {0}) (path : List ℕ) (told : Item) → put_in offset new xs
+    ≡ Some (ys, r) → Stands head xs path told
     → Stands head ys (rule_insert offset (length new) to_next path) told
 insert-stands head offset new xs ys r [] told e h = absurd (h tt)
 insert-stands head offset new xs ys r (i ∷ path) told e h =
@@ -106,10 +116,12 @@ is_of_run offset count [] = false
 is_of_run offset count (number ∷ path) = nat_le offset number && nat_lt number (offset + count)
 
 -- items that go
-pub remove-stands : (head : Item → Item) (offset count : ℕ) (xs ys gone : List Item) (path : List ℕ) (told : Item) → take_out offset count xs ≡ Some (ys, gone) → is_of_run offset count path ≡ false
+pub remove-stands : (head : Item → Item) (offset count : ℕ) (xs ys gone : List Item) (path : List ℕ) (told : Item) → take_out offset count xs
+    ≡ Some (ys, gone) → is_of_run offset count path ≡ false
     → Stands head xs path told → Stands head ys (rule_remove offset count path) told
 remove-stands head offset count xs ys gone [] told e kept h = absurd (h tt)
-remove-stands head offset count xs ys gone (i ∷ path) told e kept h = go (nat_le (offset + count) i) refl (nat_le offset i) refl (parted-out offset count xs ys gone e)
+remove-stands head offset count xs ys gone (i ∷ path) told e kept h = go (nat_le (offset + count) i) refl (nat_le offset i) refl
+    (parted-out offset count xs ys gone e)
   where
     go : (t : Bool) → t ≡ nat_le (offset + count) i → (u : Bool) → u ≡ nat_le offset i → Parted offset count xs ys gone []
         → Stands head ys (if t then (i - count) ∷ path else (if u then offset ∷ [] else i ∷ path)) told
@@ -126,20 +138,26 @@ remove-stands head offset count xs ys gone (i ∷ path) told e kept h = go (nat_
     go false t false s p = stands-at head xs ys i i path told (get-before p i (grind (arith, nat_tests))) h
 
 -- an element that is split
-pub split-stands : (head : Item → Item) → IsOfHead head → (element at : ℕ) (shell : Item → Item) → IsShell shell → (xs ys : List Item) (r : Item) (path : List ℕ) (told : Item) → split_at element at shell xs ≡ Some (ys, r)
+pub split-stands : (head : Item → Item) → IsOfHead head → (element at : ℕ) (shell : Item → Item) → IsShell shell
+    → (xs ys : List Item) (r : Item) (path : List ℕ) (told : Item) → split_at element at shell xs ≡ Some (ys, r)
     → Stands head xs path told → Stands head ys (rule_split element at to_next path) told
 split-stands head apart element at shell bare xs ys r [] told e h = absurd (h tt)
-split-stands head apart element at shell bare xs ys r (o ∷ []) told e h = go (o == element) refl (nat_lt element o) refl (halves element at shell bare xs ys r e)
+split-stands head apart element at shell bare xs ys r (o ∷ []) told e h = go (o == element) refl (nat_lt element o) refl
+    (halves element at shell bare xs ys r e)
   where
-    go : (t : Bool) → t ≡ (o == element) → (u : Bool) → u ≡ nat_lt element o → Halves element at xs ys → Stands head ys (if t then element ∷ [] else (if u then o + 1 else o) ∷ []) told
+    go : (t : Bool) → t ≡ (o == element) → (u : Bool) → u ≡ nat_lt element o → Halves element at xs ys
+        → Stands head ys (if t then element ∷ [] else (if u then o + 1 else o) ∷ []) told
     go true t u v s =
         let same : o ≡ element = grind (arith, nat_tests) in
-        ap (option_map head) s.then_found ∙ ap Some (apart (take at s.items) s.item) ∙ sym (ap (option_map head) s.found) ∙ ap (λ k. option_map head (slice_get xs k)) (sym same) ∙ h
+        ap (option_map head) s.then_found ∙ ap Some (apart (take at s.items) s.item) ∙ sym (ap (option_map head) s.found)
+        ∙ ap (λ k. option_map head (slice_get xs k)) (sym same) ∙ h
     go false t true v s = stands-at head xs ys o (o + 1) [] told (s.behind o (grind (arith, nat_tests))) h
     go false t false v s = stands-at head xs ys o o [] told (s.before o (grind (arith, nat_tests))) h
-split-stands head apart element at shell bare xs ys r (i ∷ k ∷ path) told e h = go (i == element) refl (nat_lt element i) refl (halves element at shell bare xs ys r e)
+split-stands head apart element at shell bare xs ys r (i ∷ k ∷ path) told e h = go (i == element) refl (nat_lt element i) refl
+    (halves element at shell bare xs ys r e)
   where
-    cut : Halves element at xs ys → i ≡ element → (t : Bool) → nat_le at k ≡ t → Stands head ys (if t then (element + 1) ∷ (k - at) ∷ path else element ∷ k ∷ path) told
+    cut : Halves element at xs ys → i ≡ element → (t : Bool) → nat_le at k ≡ t
+        → Stands head ys (if t then (element + 1) ∷ (k - at) ∷ path else element ∷ k ∷ path) told
     cut s same t test =
         let items : h.0 ≡ s.items = (let f : Some h.0 ≡ Some s.items = sym h.1 ∙ ap (in_at xs) same ∙ s.there in cc) in
         let below = subst (λ is. Stands head is (k ∷ path) told) items h.2 in
@@ -152,7 +170,8 @@ split-stands head apart element at shell bare xs ys r (i ∷ k ∷ path) told e 
             let least : at ≤ k = grind (arith, nat_tests) in
             stands-in head ys (drop at s.items) (element + 1) ((k - at) ∷ path) told s.right
             (stands-at head s.items (drop at s.items) k (k - at) path told
-            (sym (get-back (take at s.items) (drop at s.items) k (k - at) (omega (arith, least, long))) ∙ ap (λ zs. slice_get zs k) (take-append-drop at s.items)) below)
+            (sym (get-back (take at s.items) (drop at s.items) k (k - at) (omega (arith, least, long)))
+            ∙ ap (λ zs. slice_get zs k) (take-append-drop at s.items)) below)
         halve s false test below long =
             let less : k < at = grind (arith, nat_tests) in
             stands-in head ys (take at s.items) element (k ∷ path) told s.left
@@ -160,7 +179,8 @@ split-stands head apart element at shell bare xs ys r (i ∷ k ∷ path) told e 
             (sym (get-front (take at s.items) (drop at s.items) k (omega (arith, less, long))) ∙ ap (λ zs. slice_get zs k) (take-append-drop at s.items)) below)
 
     go : (t : Bool) → t ≡ (i == element) → (u : Bool) → u ≡ nat_lt element i → Halves element at xs ys
-        → Stands head ys (if t then (if comes_before at to_next k path then (element + 1) ∷ (k - at) ∷ path else element ∷ k ∷ path) else (if u then i + 1 else i) ∷ k ∷ path) told
+        → Stands head ys (if t then (if comes_before at to_next k path then (element + 1) ∷ (k - at) ∷ path else element ∷ k ∷ path)
+        else (if u then i + 1 else i) ∷ k ∷ path) told
     go true t u v s =
         subst (λ b. Stands head ys (if b then (element + 1) ∷ (k - at) ∷ path else element ∷ k ∷ path) told) (sym (before-le at k path))
         (cut s (grind (arith, nat_tests)) (nat_le at k) refl)
@@ -177,7 +197,8 @@ stands-less head xs k [] told h = (let a = map-some head (slice_get xs k) told h
 stands-less head xs k (next ∷ path) told h = get-some xs k h.0 h.1
 
 -- an element that is merged into the one before it; the element itself goes
-pub merge-stands : (head : Item → Item) → IsOfHead head → (right : ℕ) (xs ys : List Item) (r : Item × ℕ) (path : List ℕ) (told : Item) → 0 < right → merge_at right xs ≡ Some (ys, r) → path ≢ right ∷ []
+pub merge-stands : (head : Item → Item) → IsOfHead head → (right : ℕ) (xs ys : List Item) (r : Item × ℕ) (path : List ℕ) (told : Item) → 0 < right
+    → merge_at right xs ≡ Some (ys, r) → path ≢ right ∷ []
     → Stands head xs path told → Stands head ys (rule_merge right r.1 path) told
 merge-stands head apart right xs ys r [] told some e kept h = absurd (h tt)
 merge-stands head apart right xs ys r (o ∷ []) told some e kept h = go (o == right) refl (nat_lt right o) refl (joined right xs ys r some e)
@@ -193,7 +214,8 @@ merge-stands head apart right xs ys r (o ∷ []) told some e kept h = go (o == r
         below : ¬ (o ≡ right - 1) → o < right → o + 1 < right
         below differ less = grind arith
 
-    go : (t : Bool) → t ≡ (o == right) → (u : Bool) → u ≡ nat_lt right o → Joined right r.1 xs ys → Stands head ys (if t then (right - 1) ∷ r.1 ∷ [] else (if u then o - 1 else o) ∷ []) told
+    go : (t : Bool) → t ≡ (o == right) → (u : Bool) → u ≡ nat_lt right o → Joined right r.1 xs ys
+        → Stands head ys (if t then (right - 1) ∷ r.1 ∷ [] else (if u then o - 1 else o) ∷ []) told
     go true t u v s = (let same : o ≡ right = grind (arith, nat_tests) in absurd (kept (λ i. same i ∷ [])))
     go false t true v s = stands-at head xs ys o (o - 1) [] told (s.behind o (grind (arith, nat_tests))) h
     go false t false v s = near s (grind (arith, nat_tests))
@@ -203,7 +225,8 @@ merge-stands head apart right xs ys r (i ∷ k ∷ path) told some e kept h = go
     near s less =
         elim (decide i (right - 1)) [
           | inl same ↦ (let items : h.0 ≡ s.front = (let f : Some h.0 ≡ Some s.front = sym h.1 ∙ ap (in_at xs) same ∙ s.first in cc) in
-              stands-in head ys (s.front ++ s.back) i (k ∷ path) told (ap (in_at ys) same ∙ s.one) (join-left s.front s.back (subst (λ is. Stands head is (k ∷ path) told) items h.2)))
+              stands-in head ys (s.front ++ s.back) i (k ∷ path) told (ap (in_at ys) same ∙ s.one)
+              (join-left s.front s.back (subst (λ is. Stands head is (k ∷ path) told) items h.2)))
           | inr differ ↦ stands-at head xs ys i i (k ∷ path) told (s.before i (below differ less)) h
         ]
       where
@@ -211,9 +234,11 @@ merge-stands head apart right xs ys r (i ∷ k ∷ path) told some e kept h = go
         below differ less = grind arith
 
         join-left : (front back : List Item) → Stands head front (k ∷ path) told → Stands head (front ++ back) (k ∷ path) told
-        join-left front back below = stands-at head front (front ++ back) k k path told (get-front front back k (stands-less head front k path told below)) below
+        join-left front back below = stands-at head front (front ++ back) k k path told
+            (get-front front back k (stands-less head front k path told below)) below
 
-    go : (t : Bool) → t ≡ (i == right) → (u : Bool) → u ≡ nat_lt right i → Joined right r.1 xs ys → Stands head ys (if t then (right - 1) ∷ (r.1 + k) ∷ path else (if u then i - 1 else i) ∷ k ∷ path) told
+    go : (t : Bool) → t ≡ (i == right) → (u : Bool) → u ≡ nat_lt right i → Joined right r.1 xs ys
+        → Stands head ys (if t then (right - 1) ∷ (r.1 + k) ∷ path else (if u then i - 1 else i) ∷ k ∷ path) told
     go true t u v s =
         let same : i ≡ right = grind (arith, nat_tests) in
         let items : h.0 ≡ s.back = (let f : Some h.0 ≡ Some s.back = sym h.1 ∙ ap (in_at xs) same ∙ s.second in cc) in

@@ -4,7 +4,8 @@ use Rattle.item_definitions.specs.Item.{Item, Items, character, element, none, m
 use Rattle.item_definitions.specs.Position.{between}
 use Rattle.item_definitions.specs.Shift as shifts
 use Rattle.item_definitions.specs.Shift.{Shift, stay, remove}
-use Rattle.operation_definitions.specs.Operation.{Operation, Fault, Place, in_tree, in_cell, fresh, from_cell, insert, move, attribute, rename, split, merge, marker}
+use Rattle.operation_definitions.specs.Operation.{Operation, Fault, Place, in_tree, in_cell, fresh, from_cell, insert, move, attribute, rename, split, merge}
+use Rattle.operation_definitions.specs.Operation.{marker}
 use Rattle.operation_definitions.specs.After.{after, ◌>>=◌}
 use Rattle.document_definitions.specs.Markers as markers
 use Rattle.document_definitions.specs.Markers.{Markers, with_marker}

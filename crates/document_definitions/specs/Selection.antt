@@ -1,6 +1,7 @@
 -- The selection of a document, and the attributes that text typed there gets. (After `DocumentSelection` of CKEditor 5's model; what
 -- the selection's own attributes are, and when they go, is this engine's own rule.)
-use Rattle.std.specs.Prelude.{ℕ, List, [], ◌∷◌, Bool, true, false, ◌&&◌, not, ◌==◌, if◌then◌else◌, nat_eq, Option, Some, None, find, fold, option_and_then, unwrap_or}
+use Rattle.std.specs.Prelude.{ℕ, List, [], ◌∷◌, Bool, true, false, ◌&&◌, not, ◌==◌, if◌then◌else◌, nat_eq, Option, Some, None, find, fold, option_and_then}
+use Rattle.std.specs.Prelude.{unwrap_or}
 use Rattle.std.specs.Option.{option_or}
 use Rattle.std.specs.Cmp.Lexicographic.{pointwise}
 use Rattle.ck_base.specs.declared.value.Value.{Value as AttributeValue}

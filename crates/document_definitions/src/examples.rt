@@ -52,9 +52,11 @@ pub fn covered()
 
 /// The overrides of a selection go where its range changes, and stay where it stays.
 pub fn overrides()
-    ensures moved { selections.carried (shifts.insert (0 ∷ 0 ∷ []) 1) (with_override (98 ∷ []) (Some (Truth true)) (selected (between (0 ∷ 1 ∷ []) (0 ∷ 1 ∷ [])) false))
+    ensures moved { selections.carried (shifts.insert (0 ∷ 0 ∷ []) 1)
+        (with_override (98 ∷ []) (Some (Truth true)) (selected (between (0 ∷ 1 ∷ []) (0 ∷ 1 ∷ [])) false))
         ≡ selected (between (0 ∷ 2 ∷ []) (0 ∷ 2 ∷ [])) false }
-    ensures stays { selections.carried (shifts.insert (0 ∷ 2 ∷ []) 1) (with_override (98 ∷ []) (Some (Truth true)) (selected (between (0 ∷ 1 ∷ []) (0 ∷ 1 ∷ [])) false))
+    ensures stays { selections.carried (shifts.insert (0 ∷ 2 ∷ []) 1)
+        (with_override (98 ∷ []) (Some (Truth true)) (selected (between (0 ∷ 1 ∷ []) (0 ∷ 1 ∷ [])) false))
         ≡ with_override (98 ∷ []) (Some (Truth true)) (selected (between (0 ∷ 1 ∷ []) (0 ∷ 1 ∷ [])) false) }
     ensures collapses { selections.carried (shifts.remove (0 ∷ 0 ∷ []) 2) (selected (between (0 ∷ 0 ∷ []) (0 ∷ 2 ∷ [])) true)
         ≡ selected (between (0 ∷ 0 ∷ []) (0 ∷ 0 ∷ [])) false }
@@ -69,5 +71,6 @@ pub fn attributes_of_a_selection()
         ≡ (98 ∷ [], Truth true) ∷ [] }
     ensures first { natural two_paragraphs (selected (between (0 ∷ 2 ∷ []) (1 ∷ 2 ∷ [])) false) ≡ [] }
     ensures nothing { natural (paragraph 1 [] ∷ []) (selected (between (0 ∷ 0 ∷ []) (0 ∷ 0 ∷ [])) false) ≡ [] }
-    ensures overridden { attributes (character 97 ((98 ∷ [], Truth true) ∷ []) ∷ []) (with_override (98 ∷ []) None (selected (between (1 ∷ []) (1 ∷ [])) false)) ≡ [] }
+    ensures overridden { attributes (character 97 ((98 ∷ [], Truth true) ∷ []) ∷ [])
+        (with_override (98 ∷ []) None (selected (between (1 ∷ []) (1 ∷ [])) false)) ≡ [] }
 {}

@@ -43,7 +43,8 @@ pub fn positions_keep_to_the_limits()
 
 /// An operation that brings new ids alone keeps a sound document sound.
 pub fn operations_keep_soundness()
-    ensures { (operation : Operation) (state new : State) → IsSound state → HasPlaces operation → IsWelcome operation state → applied operation state ≡ Ok new → IsSound new }
+    ensures { (operation : Operation) (state new : State) → IsSound state → HasPlaces operation → IsWelcome operation state → applied operation state
+        ≡ Ok new → IsSound new }
 {}
 
 /// An operation keeps the keys of each item in order, in the tree and in the cells, where those of the items that come in are in order.

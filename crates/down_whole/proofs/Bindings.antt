@@ -1,5 +1,6 @@
 -- The bindings of a document's elements: each id and each number is bound once.
-use Rattle.std.proofs.Common.{◌≡◌, ℕ, ◌+◌, ◌≤◌, ◌==◌, nat_lt, nat_le, ◌&&◌, List, [], ◌∷◌, ◌++◌, inl, inr, Bool, true, false, if◌then◌else◌, Option, Some, None, refl, sym, ap, ◌∙◌, subst, append_assoc, append-nil, arith}
+use Rattle.std.proofs.Common.{◌≡◌, ℕ, ◌+◌, ◌≤◌, ◌==◌, nat_lt, nat_le, ◌&&◌, List, [], ◌∷◌, ◌++◌, inl, inr, Bool, true, false, if◌then◌else◌, Option, Some, None}
+use Rattle.std.proofs.Common.{refl, sym, ap, ◌∙◌, subst, append_assoc, append-nil, arith}
 use Rattle.std.proofs.lemmas.Bool.Decides.{nat_tests}
 use Rattle.std.proofs.lemmas.List.Elements.{All-nil, All-cons, All-head, All-tail}
 use Rattle.std.specs.Prelude.{nat_eq, ◌||◌, All, IsSomeAnd, is_some, option_map, cond}
@@ -35,8 +36,10 @@ bindings-append conversion parent before drawn (item ∷ xs) ys =
     let m : drawn + elements_of item + elements_among (items_of xs) ≡ drawn + elements_among (items_of (item ∷ xs)) = omega arith in
     ap (λ made. bindings_of conversion parent before drawn item ++ made)
     (bindings-append conversion parent (before + elements_in item) (drawn + elements_of item) xs ys
-    ∙ (λ i. bindings_among conversion parent (before + elements_in item) (drawn + elements_of item) (items_of xs) ++ bindings_among conversion parent (n i) (m i) (items_of ys)))
-    ∙ sym (append_assoc (bindings_of conversion parent before drawn item) (bindings_among conversion parent (before + elements_in item) (drawn + elements_of item) (items_of xs)) _)
+    ∙ (λ i. bindings_among conversion parent (before + elements_in item) (drawn + elements_of item) (items_of xs) ++ bindings_among conversion parent
+    (n i) (m i) (items_of ys)))
+    ∙ sym (append_assoc (bindings_of conversion parent before drawn item)
+    (bindings_among conversion parent (before + elements_in item) (drawn + elements_of item) (items_of xs)) _)
 
 pub agree-front : (numbers : Numbers) (xs ys : List Binding) → Agree numbers (xs ++ ys) → Agree numbers xs
 agree-front numbers [] ys h = All-nil (λ binding. numbers binding.id ≡ Some binding.number)
@@ -93,7 +96,8 @@ module _ (key : Binding → ℕ) where
   present binding (other ∷ bindings) (inr m) = omega (arith, present binding bindings m)
 
   -- a binding whose key is held once is found by it
-  pub found : (binding : Binding) (bindings : List Binding) → Among binding bindings → held (key binding) bindings ≤ 1 → find (λ other. key other == key binding) bindings ≡ Some binding
+  pub found : (binding : Binding) (bindings : List Binding) → Among binding bindings → held (key binding) bindings ≤ 1
+      → find (λ other. key other == key binding) bindings ≡ Some binding
   found binding [] h o = absurd h
   found binding (other ∷ bindings) (inl e) o =
       ap (λ t. cond t (Some other) (find (λ other. key other == key binding) bindings)) (ap (λ b. key other == key b) e ∙ own (key other)) ∙ ap Some (sym e)
@@ -108,7 +112,8 @@ module _ (key : Binding → ℕ) where
   -- what comes behind others is not among them
   new : (binding : Binding) (xs ys : List Binding) → held (key binding) (xs ++ binding ∷ ys) ≤ 1 → find (λ other. key other == key binding) xs ≡ None
   new binding xs ys o =
-      let all : held (key binding) (xs ++ binding ∷ ys) ≡ held (key binding) xs + held (key binding) (binding ∷ ys) = held-append (key binding) xs (binding ∷ ys) in
+      let all : held (key binding) (xs ++ binding ∷ ys) ≡ held (key binding) xs + held (key binding) (binding ∷ ys) = held-append (key binding) xs
+      (binding ∷ ys) in
       let one : held (key binding) (binding ∷ ys) ≡ 1 + held (key binding) ys = ap (λ t. (if t then 1 else 0) + held (key binding) ys) (own (key binding)) in
       absent (key binding) xs (omega (arith, o, all, one))
 
@@ -122,7 +127,8 @@ added mapper made true other e f = absurd cc
 added mapper made false true e f = absurd cc
 added mapper made false false e f = refl
 
-bound-behind : (xs ys : List Binding) (caret : Option CaretPlace) → Once (xs ++ ys) → with_bindings ys (record { bindings = xs; caret = caret }) ≡ record { bindings = xs ++ ys; caret = caret }
+bound-behind : (xs ys : List Binding) (caret : Option CaretPlace) → Once (xs ++ ys) → with_bindings ys (record { bindings = xs; caret = caret })
+    ≡ record { bindings = xs ++ ys; caret = caret }
 bound-behind xs [] caret o = ap (λ bindings. record { bindings = bindings; caret = caret }) (sym (append-nil xs))
 bound-behind xs (binding ∷ ys) caret o =
     let same : (xs ++ binding ∷ []) ++ ys ≡ xs ++ binding ∷ ys = append_assoc xs (binding ∷ []) ys in
@@ -150,11 +156,17 @@ mutual
       → held (λ binding. binding.id) id (bindings_of conversion parent before drawn item) ≡ times id (ids_of_item item)
   id_times id conversion parent before drawn (character scalar attributes) = refl
   id_times id conversion parent before drawn (element own_id name attributes children) =
-      let last : Binding = record { id = own_id; number = drawn + elements_among children; slot = slot_of (shape_at conversion parent before name attributes).form } in
+      let last : Binding = record {
+        id = own_id;
+        number = drawn + elements_among children;
+        slot =
+            slot_of (shape_at conversion parent before name attributes).form;
+      } in
       let all : held (λ binding. binding.id) id (bindings_of conversion parent before drawn (element own_id name attributes children))
       ≡ held (λ binding. binding.id) id (bindings_among conversion name 0 drawn children) + (one_if (own_id == id) + 0) =
       held-append (λ binding. binding.id) id (bindings_among conversion name 0 drawn children) (last ∷ []) in
-      let rest : held (λ binding. binding.id) id (bindings_among conversion name 0 drawn children) ≡ times id (ids_of_inner children) = ids_times id conversion name 0 drawn children in
+      let rest : held (λ binding. binding.id) id (bindings_among conversion name 0 drawn children)
+      ≡ times id (ids_of_inner children) = ids_times id conversion name 0 drawn children in
       let flip : one_if (own_id == id) ≡ one_if (id == own_id) = ap one_if (flipped own_id id) in
       omega (arith, all, rest, flip)
 
@@ -162,7 +174,8 @@ mutual
       → held (λ binding. binding.id) id (bindings_among conversion parent before drawn list) ≡ times id (ids_of_inner list)
   ids_times id conversion parent before drawn none = refl
   ids_times id conversion parent before drawn (more item rest) =
-      held-append (λ binding. binding.id) id (bindings_of conversion parent before drawn item) (bindings_among conversion parent (before + elements_in item) (drawn + elements_of item) rest)
+      held-append (λ binding. binding.id) id (bindings_of conversion parent before drawn item)
+      (bindings_among conversion parent (before + elements_in item) (drawn + elements_of item) rest)
       ∙ (λ i. id_times id conversion parent before drawn item i + ids_times id conversion parent (before + elements_in item) (drawn + elements_of item) rest i)
       ∙ sym (times-append id (ids_of_item item) (ids_of_inner rest))
 
@@ -199,8 +212,10 @@ mutual
       → held (λ binding. binding.number) n (bindings_among conversion parent before drawn list) ≡ in_range drawn (elements_among list) n
   numbers_held n conversion parent before drawn none = range-none drawn n
   numbers_held n conversion parent before drawn (more item rest) =
-      held-append (λ binding. binding.number) n (bindings_of conversion parent before drawn item) (bindings_among conversion parent (before + elements_in item) (drawn + elements_of item) rest)
-      ∙ (λ i. number_held n conversion parent before drawn item i + numbers_held n conversion parent (before + elements_in item) (drawn + elements_of item) rest i)
+      held-append (λ binding. binding.number) n (bindings_of conversion parent before drawn item)
+      (bindings_among conversion parent (before + elements_in item) (drawn + elements_of item) rest)
+      ∙ (λ i. number_held n conversion parent before drawn item i + numbers_held n conversion parent (before + elements_in item)
+      (drawn + elements_of item) rest i)
       ∙ sym (range-append drawn (elements_of item) (elements_among rest) n)
 
 -- ids that differ stand at most once
@@ -224,7 +239,8 @@ pub same-ids : (list : List Item) → ids_of_inner (items_of list) ≡ ids_of li
 same-ids [] = refl
 same-ids (item ∷ list) = ap (λ ids. ids_of_item item ++ ids) (same-ids list)
 
-pub once : (conversion : Conversion) (parent : List ℕ) (before drawn : ℕ) (list : List Item) → IsDistinct nat_eq (ids_of list) → Once (bindings_among conversion parent before drawn (items_of list))
+pub once : (conversion : Conversion) (parent : List ℕ) (before drawn : ℕ) (list : List Item) → IsDistinct nat_eq (ids_of list)
+    → Once (bindings_among conversion parent before drawn (items_of list))
 once conversion parent before drawn list d = (
   λ id. subst (λ n. n ≤ 1) (sym (ids_times id conversion parent before drawn (items_of list) ∙ ap (times id) (same-ids list))) (once-times (ids_of list) d id),
   λ n. subst (λ m. m ≤ 1) (sym (numbers_held n conversion parent before drawn (items_of list))) (range-once drawn (elements_among (items_of list)) n),
@@ -233,9 +249,12 @@ once conversion parent before drawn list d = (
 -- ---- the mapper of a document
 
 -- the bindings of a document's elements are kept as they come
-pub mapper-bound : (conversion : Conversion) (parent : List ℕ) (before drawn : ℕ) (list : List Item) (caret : Option CaretPlace) → IsDistinct nat_eq (ids_of list)
-    → with_bindings (bindings_among conversion parent before drawn (items_of list)) (record { bindings = []; caret = caret }) ≡ record { bindings = bindings_among conversion parent before drawn (items_of list); caret = caret }
-mapper-bound conversion parent before drawn list caret d = bound-behind [] (bindings_among conversion parent before drawn (items_of list)) caret (once conversion parent before drawn list d)
+pub mapper-bound : (conversion : Conversion) (parent : List ℕ) (before drawn : ℕ) (list : List Item) (caret : Option CaretPlace)
+    → IsDistinct nat_eq (ids_of list)
+    → with_bindings (bindings_among conversion parent before drawn (items_of list)) (record { bindings = []; caret = caret })
+    ≡ record { bindings = bindings_among conversion parent before drawn (items_of list); caret = caret }
+mapper-bound conversion parent before drawn list caret d = bound-behind [] (bindings_among conversion parent before drawn (items_of list)) caret
+    (once conversion parent before drawn list d)
 
 all-of : {X : Type 0} (P : X → Type 0) (xs : List X) → ((x : X) → Among x xs → P x) → All P xs
 all-of P [] h = All-nil P
@@ -250,25 +269,35 @@ numbers-agree conversion parent before drawn list mapper d e =
     all-of (λ binding. numbers_of mapper binding.id ≡ Some binding.number) bindings
     (λ binding m.
     ap (λ all. option_map (λ binding. binding.number) (find (λ other. other.id == binding.id) all)) e
-    ∙ ap (option_map (λ binding. binding.number)) (found (λ binding. binding.id) binding bindings m ((once conversion parent before drawn list d).0 binding.id)))
+    ∙ ap (option_map (λ binding. binding.number))
+    (found (λ binding. binding.id) binding bindings m ((once conversion parent before drawn list d).0 binding.id)))
 
 module _ (mapper : Mapper) (scene : Scene) (o : Once mapper.bindings) where
   mutual
     bound_item : (parent : List ℕ) (before drawn : ℕ) (item : Item)
-        → ((binding : Binding) → Among binding (bindings_of scene.conversion parent before drawn item) → Among binding mapper.bindings) → IsBound mapper scene parent before item
+        → ((binding : Binding) → Among binding (bindings_of scene.conversion parent before drawn item) → Among binding mapper.bindings)
+        → IsBound mapper scene parent before item
     bound_item parent before drawn (character scalar attributes) h = tt
     bound_item parent before drawn (element id name attributes children) h =
-        let last : Binding = record { id = id; number = drawn + elements_among children; slot = slot_of (shape_at scene.conversion parent before name attributes).form } in
+        let last : Binding = record {
+          id = id;
+          number = drawn + elements_among children;
+          slot =
+              slot_of (shape_at scene.conversion parent before name attributes).form;
+        } in
         let here : Among last mapper.bindings = h last (among-right last (bindings_among scene.conversion name 0 drawn children) (last ∷ []) (inl refl)) in
         let by_id : bound_id id mapper ≡ Some last = found (λ binding. binding.id) last mapper.bindings here (o.0 id) in
-        let by_number : bound_number (drawn + elements_among children) mapper ≡ Some last = found (λ binding. binding.number) last mapper.bindings here (o.1 (drawn + elements_among children)) in (
-          subst (λ at. IsSomeAnd at (λ binding. option_map (λ bound. bound.slot) (bound_number binding.number mapper) ≡ Some (slot_of (shape_at scene.conversion parent before name attributes).form)))
+        let by_number : bound_number (drawn + elements_among children) mapper
+        ≡ Some last = found (λ binding. binding.number) last mapper.bindings here (o.1 (drawn + elements_among children)) in (
+          subst (λ at. IsSomeAnd at (λ binding. option_map (λ bound. bound.slot) (bound_number binding.number mapper)
+              ≡ Some (slot_of (shape_at scene.conversion parent before name attributes).form)))
               (sym by_id) (ap (option_map (λ bound. bound.slot)) by_number),
           bound_items name 0 drawn children (λ binding m. h binding (among-left binding (bindings_among scene.conversion name 0 drawn children) (last ∷ []) m)),
         )
 
     bound_items : (parent : List ℕ) (before drawn : ℕ) (list : Items)
-        → ((binding : Binding) → Among binding (bindings_among scene.conversion parent before drawn list) → Among binding mapper.bindings) → AreBound mapper scene parent before list
+        → ((binding : Binding) → Among binding (bindings_among scene.conversion parent before drawn list) → Among binding mapper.bindings)
+        → AreBound mapper scene parent before list
     bound_items parent before drawn none h = tt
     bound_items parent before drawn (more item rest) h =
         let one = bindings_of scene.conversion parent before drawn item in
@@ -278,7 +307,8 @@ module _ (mapper : Mapper) (scene : Scene) (o : Once mapper.bindings) where
         )
 
 -- each element is bound to a view element with the slot of its shape
-pub all-bound : (conversion : Conversion) (parent : List ℕ) (before drawn : ℕ) (list : List Item) (mapper : Mapper) (scene : Scene) → IsDistinct nat_eq (ids_of list)
+pub all-bound : (conversion : Conversion) (parent : List ℕ) (before drawn : ℕ) (list : List Item) (mapper : Mapper) (scene : Scene)
+    → IsDistinct nat_eq (ids_of list)
     → mapper.bindings ≡ bindings_among conversion parent before drawn (items_of list) → scene.conversion ≡ conversion
     → AreBound mapper scene parent before (items_of list)
 all-bound conversion parent before drawn list mapper scene d e s =

@@ -3,7 +3,8 @@ use Rattle.std.proofs.Common.{◌≡◌, ℕ, List, [], ◌∷◌, ◌++◌, tru
 use Rattle.view_definitions.specs.Node.{Head, ViewNode, ViewNodes, text, element, list_of, nodes_of}
 use Rattle.view_definitions.specs.NodeCode.{list_of-nodes_of}
 use Rattle.view_definitions.specs.Layer.{Layer, same_layer, layer_of, in_layer}
-use Rattle.view_definitions.specs.Row.{Content, leaf, item, character, caret, Entry, Piece, Pieces, nothing, first, bare, wrapped, put, pieces_of, character_before, shown, both_layers}
+use Rattle.view_definitions.specs.Row.{Content, leaf, item, character, caret, Entry, Piece, Pieces, nothing, first, bare, wrapped, put, pieces_of}
+use Rattle.view_definitions.specs.Row.{character_before, shown, both_layers}
 use Rattle.view_definitions.proofs.Layers.{same_layer-true, same_layer-itself}
 use Rattle.view_definitions.proofs.Joins.{PlainPieces, leaf_none, item_none}
 use Rattle.view_tree.specs.Changes.{inner_of}
@@ -35,8 +36,11 @@ pub put-is : (layer : Layer) (layers : List Layer) (content : Content) (pieces :
 put-is layer layers content nothing = refl
 put-is layer layers content (first (bare next) pieces) = refl
 put-is layer layers content (first (wrapped other inner) pieces) =
-    elim (same_layer layer other) as (λ b. (if b then first (wrapped layer (put layers content inner)) pieces else first (wrapped layer (put layers content nothing)) (first (wrapped other inner) pieces))
-    ≡ first (wrapped layer (put layers content (if b then inner else nothing))) (if b then pieces else first (wrapped other inner) pieces)) [ true ↦ refl | false ↦ refl ]
+    elim (same_layer layer other) as
+    (λ b. (if b then first (wrapped layer (put layers content inner)) pieces
+    else first (wrapped layer (put layers content nothing)) (first (wrapped other inner) pieces))
+    ≡ first (wrapped layer (put layers content (if b then inner else nothing))) (if b then pieces else first (wrapped other inner) pieces))
+    [ true ↦ refl | false ↦ refl ]
 
 abbrev mutual
   -- the caret in these layers between pieces
@@ -86,7 +90,10 @@ put-around (layer ∷ layers) content (first (wrapped other inner) (first piece 
     elim (same_layer layer other) as (λ b. (if b then first (wrapped layer (put layers content inner)) (around (first piece pieces) caret_layers right)
     else first (wrapped layer (put layers content nothing)) (first (wrapped other inner) (around (first piece pieces) caret_layers right)))
     ≡ around (if b then first (wrapped layer (put layers content inner)) (first piece pieces)
-    else first (wrapped layer (put layers content nothing)) (first (wrapped other inner) (first piece pieces))) caret_layers right) [ true ↦ refl | false ↦ refl ]
+    else first (wrapped layer (put layers content nothing)) (first (wrapped other inner) (first piece pieces))) caret_layers right) [
+      | true ↦ refl
+      | false ↦ refl
+    ]
 put-around (layer ∷ layers) content (first (wrapped other inner) nothing) [] right =
     elim (same_layer layer other) as (λ b. (if b then first (wrapped layer (put layers content inner)) (put [] caret right)
     else first (wrapped layer (put layers content nothing)) (first (wrapped other inner) (put [] caret right)))
@@ -94,19 +101,23 @@ put-around (layer ∷ layers) content (first (wrapped other inner) nothing) [] r
     else first (wrapped layer (put layers content nothing)) (first (wrapped other inner) nothing)) [] right) [ true ↦ refl | false ↦ refl ]
 put-around (layer ∷ layers) content (first (wrapped other inner) nothing) (outer ∷ inside) right =
     elim (same_layer outer other) as (λ b. same_layer outer other ≡ b
-    → put (layer ∷ layers) content (if b then first (wrapped other (around inner inside (inner_first outer right))) (without_first outer right) else first (wrapped other inner) (put (outer ∷ inside) caret right))
+    → put (layer ∷ layers) content (if b then first (wrapped other (around inner inside (inner_first outer right))) (without_first outer right)
+    else first (wrapped other inner) (put (outer ∷ inside) caret right))
     ≡ around (put_before layer layers content other inner nothing) (outer ∷ inside) right) [
       | true ↦ λ e. elim (same_layer layer other) as (λ c. same_layer layer other ≡ c
           → (if c then first (wrapped layer (put layers content (around inner inside (inner_first outer right)))) (without_first outer right)
-          else first (wrapped layer (put layers content nothing)) (first (wrapped other (around inner inside (inner_first outer right))) (without_first outer right)))
+          else first (wrapped layer (put layers content nothing))
+          (first (wrapped other (around inner inside (inner_first outer right))) (without_first outer right)))
           ≡ around (if c then first (wrapped layer (put layers content inner)) nothing
           else first (wrapped layer (put layers content nothing)) (first (wrapped other inner) nothing)) (outer ∷ inside) right) [
             | true ↦ λ f.
                 ap (λ made. first (wrapped layer made) (without_first outer right)) (put-around layers content inner inside (inner_first outer right))
-                ∙ ap (λ b. if b then first (wrapped layer (around (put layers content inner) inside (inner_first outer right))) (without_first outer right) else first (wrapped layer (put layers content inner)) (put (outer ∷ inside) caret right))
+                ∙ ap (λ b. if b then first (wrapped layer (around (put layers content inner) inside (inner_first outer right)))
+                (without_first outer right) else first (wrapped layer (put layers content inner)) (put (outer ∷ inside) caret right))
                 (sym (along layer other outer f ∙ e))
             | false ↦ λ f. ap (first (wrapped layer (put layers content nothing)))
-                (ap (λ b. if b then first (wrapped other (around inner inside (inner_first outer right))) (without_first outer right) else first (wrapped other inner) (put (outer ∷ inside) caret right)) (sym e))
+                (ap (λ b. if b then first (wrapped other (around inner inside (inner_first outer right))) (without_first outer right)
+                else first (wrapped other inner) (put (outer ∷ inside) caret right)) (sym e))
           ] refl
       | false ↦ λ e. elim (same_layer layer other) as (λ c. same_layer layer other ≡ c
           → (if c then first (wrapped layer (put layers content inner)) (put (outer ∷ inside) caret right)
@@ -114,10 +125,12 @@ put-around (layer ∷ layers) content (first (wrapped other inner) nothing) (out
           ≡ around (if c then first (wrapped layer (put layers content inner)) nothing
           else first (wrapped layer (put layers content nothing)) (first (wrapped other inner) nothing)) (outer ∷ inside) right) [
             | true ↦ λ f.
-                ap (λ b. if b then first (wrapped layer (around (put layers content inner) inside (inner_first outer right))) (without_first outer right) else first (wrapped layer (put layers content inner)) (put (outer ∷ inside) caret right))
+                ap (λ b. if b then first (wrapped layer (around (put layers content inner) inside (inner_first outer right)))
+                (without_first outer right) else first (wrapped layer (put layers content inner)) (put (outer ∷ inside) caret right))
                 (sym (along layer other outer f ∙ e))
             | false ↦ λ f. ap (first (wrapped layer (put layers content nothing)))
-                (ap (λ b. if b then first (wrapped other (around inner inside (inner_first outer right))) (without_first outer right) else first (wrapped other inner) (put (outer ∷ inside) caret right)) (sym e))
+                (ap (λ b. if b then first (wrapped other (around inner inside (inner_first outer right))) (without_first outer right)
+                else first (wrapped other inner) (put (outer ∷ inside) caret right)) (sym e))
           ] refl
     ] refl
 
@@ -126,7 +139,8 @@ abbrev pub caret_in : List Layer → Entry
 caret_in layers = record { content = caret; layers = layers }
 
 -- a row with the caret in it
-pub pieces-around : (row : List Entry) (layers : List Layer) (other : List Entry) → pieces_of (row ++ caret_in layers ∷ other) ≡ around (pieces_of row) layers (pieces_of other)
+pub pieces-around : (row : List Entry) (layers : List Layer) (other : List Entry) → pieces_of (row ++ caret_in layers ∷ other)
+    ≡ around (pieces_of row) layers (pieces_of other)
 pieces-around [] layers other = refl
 pieces-around (entry ∷ row) layers other =
     ap (put entry.layers entry.content) (pieces-around row layers other) ∙ put-around entry.layers entry.content (pieces_of row) layers (pieces_of other)
@@ -145,11 +159,13 @@ text_first layer scalar [] = refl
 text_first layer scalar (text scalars ∷ nodes) = refl
 text_first layer scalar (element head children ∷ nodes) = refl
 
-element_first : (layer : Layer) (head : Head) (children : ViewNodes) (nodes : List ViewNode) → layer_of head ≡ None → opened_first layer (element head children ∷ nodes) ≡ (element head children ∷ nodes, [])
+element_first : (layer : Layer) (head : Head) (children : ViewNodes) (nodes : List ViewNode) → layer_of head ≡ None
+    → opened_first layer (element head children ∷ nodes) ≡ (element head children ∷ nodes, [])
 element_first layer head children nodes e = ap (λ b. opened_if b nodes (list_of children) (element head children ∷ nodes)) (none_is layer head e)
 
 -- what stands first among the nodes that pieces are
-pub first-shown : (layer : Layer) (pieces : Pieces) → PlainPieces pieces → opened_first layer (shown pieces) ≡ (shown (without_first layer pieces), shown (inner_first layer pieces))
+pub first-shown : (layer : Layer) (pieces : Pieces) → PlainPieces pieces → opened_first layer (shown pieces)
+    ≡ (shown (without_first layer pieces), shown (inner_first layer pieces))
 first-shown layer nothing p = refl
 first-shown layer (first (bare (leaf (text scalars))) pieces) p = absurd cc
 first-shown layer (first (bare (leaf (element head children))) pieces) p = element_first layer head children (shown pieces) (leaf_none head p.0)
@@ -167,7 +183,8 @@ first-shown layer (first (wrapped other inner) pieces) p =
 pub inner-plain : (layer : Layer) (pieces : Pieces) → PlainPieces pieces → PlainPieces (inner_first layer pieces)
 inner-plain layer nothing p = tt
 inner-plain layer (first (bare content) pieces) p = tt
-inner-plain layer (first (wrapped other inner) pieces) p = elim (same_layer layer other) as (λ b. PlainPieces (if b then inner else nothing)) [ true ↦ p.0 | false ↦ tt ]
+inner-plain layer (first (wrapped other inner) pieces) p = elim (same_layer layer other) as (λ b. PlainPieces (if b then inner else nothing))
+    [ true ↦ p.0 | false ↦ tt ]
 
 -- the caret before pieces
 pub shown-put : (layers : List Layer) (pieces : Pieces) → PlainPieces pieces → shown (put layers caret pieces) ≡ between [] layers (shown pieces)
@@ -178,44 +195,56 @@ shown-put (layer ∷ layers) pieces p =
     ∙ ap (λ (opened : Opened). in_layer layer (between [] layers opened.1) ∷ opened.0) (sym (first-shown layer pieces p))
 
 -- behind a node that is no layer the caret stands for itself
-stands : (node : ViewNode) (layers : List Layer) (right : List ViewNode) → ((layer : Layer) → is_in layer node ≡ false) → ((nodes : List ViewNode) → text_before node nodes ≡ node ∷ nodes)
+stands : (node : ViewNode) (layers : List Layer) (right : List ViewNode) → ((layer : Layer) → is_in layer node ≡ false)
+    → ((nodes : List ViewNode) → text_before node nodes ≡ node ∷ nodes)
     → between (node ∷ []) layers right ≡ node ∷ between [] layers right
 stands node [] right apart alone = alone right
 stands node (layer ∷ layers) right apart alone =
-    ap (λ b. (opened_if b [] (inner_of node) (node ∷ [])).0 ++ (in_layer layer (between (opened_if b [] (inner_of node) (node ∷ [])).1 layers (opened_first layer right).1) ∷ (opened_first layer right).0))
+    ap (λ b. (opened_if b [] (inner_of node) (node ∷ [])).0
+    ++ (in_layer layer (between (opened_if b [] (inner_of node) (node ∷ [])).1 layers (opened_first layer right).1) ∷ (opened_first layer right).0))
     (apart layer)
 
 -- and in front of several nodes the first one stays
-pub one_more : (node next : ViewNode) (rest : List ViewNode) (layers : List Layer) (right : List ViewNode) → between (node ∷ next ∷ rest) layers right ≡ node ∷ between (next ∷ rest) layers right
+pub one_more : (node next : ViewNode) (rest : List ViewNode) (layers : List Layer) (right : List ViewNode) → between (node ∷ next ∷ rest) layers right
+    ≡ node ∷ between (next ∷ rest) layers right
 one_more node next rest [] right = refl
 one_more node next rest (layer ∷ layers) right = refl
 
-character_in : (scalar : ℕ) (node : ViewNode) (layers : List Layer) (right : List ViewNode) → character_before scalar (between (node ∷ []) layers right) ≡ between (character_before scalar (node ∷ [])) layers right
+character_in : (scalar : ℕ) (node : ViewNode) (layers : List Layer) (right : List ViewNode) → character_before scalar (between (node ∷ []) layers right)
+    ≡ between (character_before scalar (node ∷ [])) layers right
 character_in scalar (text scalars) [] [] = refl
 character_in scalar (text scalars) [] (text more_scalars ∷ nodes) = refl
 character_in scalar (text scalars) [] (element head children ∷ nodes) = refl
 character_in scalar (text scalars) (layer ∷ layers) right = refl
 character_in scalar (element head children) [] right = refl
 character_in scalar (element head children) (layer ∷ layers) right =
-    elim (is_in layer (element head children)) as (λ b. character_before scalar ((opened_if b [] (list_of children) (element head children ∷ [])).0 ++ (in_layer layer (between (opened_if b [] (list_of children) (element head children ∷ [])).1 layers (opened_first layer right).1) ∷ (opened_first layer right).0))
-    ≡ text (scalar ∷ []) ∷ ((opened_if b [] (list_of children) (element head children ∷ [])).0 ++ (in_layer layer (between (opened_if b [] (list_of children) (element head children ∷ [])).1 layers (opened_first layer right).1) ∷ (opened_first layer right).0))) [ true ↦ refl | false ↦ refl ]
+    elim (is_in layer (element head children)) as
+    (λ b. character_before scalar ((opened_if b [] (list_of children) (element head children ∷ [])).0
+    ++ (in_layer layer (between (opened_if b [] (list_of children) (element head children ∷ [])).1 layers (opened_first layer right).1)
+    ∷ (opened_first layer right).0))
+    ≡ text (scalar ∷ []) ∷ ((opened_if b [] (list_of children) (element head children ∷ [])).0
+    ++ (in_layer layer (between (opened_if b [] (list_of children) (element head children ∷ [])).1 layers (opened_first layer right).1)
+    ∷ (opened_first layer right).0))) [ true ↦ refl | false ↦ refl ]
 
 -- a character before nodes that the caret is behind
-pub character-between : (scalar : ℕ) (node : ViewNode) (rest : List ViewNode) (layers : List Layer) (right : List ViewNode) → character_before scalar (between (node ∷ rest) layers right) ≡ between (character_before scalar (node ∷ rest)) layers right
+pub character-between : (scalar : ℕ) (node : ViewNode) (rest : List ViewNode) (layers : List Layer) (right : List ViewNode)
+    → character_before scalar (between (node ∷ rest) layers right) ≡ between (character_before scalar (node ∷ rest)) layers right
 character-between scalar node [] layers right = character_in scalar node layers right
 character-between scalar (text scalars) (next ∷ rest) [] right = refl
 character-between scalar (text scalars) (next ∷ rest) (layer ∷ layers) right = refl
 character-between scalar (element head children) (next ∷ rest) [] right = refl
 character-between scalar (element head children) (next ∷ rest) (layer ∷ layers) right = refl
 
-character_alone : (scalar : ℕ) (layers : List Layer) (right : List ViewNode) → character_before scalar (between [] layers right) ≡ between (text (scalar ∷ []) ∷ []) layers right
+character_alone : (scalar : ℕ) (layers : List Layer) (right : List ViewNode) → character_before scalar (between [] layers right)
+    ≡ between (text (scalar ∷ []) ∷ []) layers right
 character_alone scalar [] [] = refl
 character_alone scalar [] (text more_scalars ∷ nodes) = refl
 character_alone scalar [] (element head children ∷ nodes) = refl
 character_alone scalar (layer ∷ layers) right = refl
 
 -- pieces without the caret show a node
-pub some-shown : (piece : Piece) (pieces : Pieces) (P : List ViewNode → Type 0) → PlainPieces (first piece pieces) → ((node : ViewNode) (nodes : List ViewNode) → P (node ∷ nodes)) → P (shown (first piece pieces))
+pub some-shown : (piece : Piece) (pieces : Pieces) (P : List ViewNode → Type 0) → PlainPieces (first piece pieces)
+    → ((node : ViewNode) (nodes : List ViewNode) → P (node ∷ nodes)) → P (shown (first piece pieces))
 some-shown (bare (leaf node)) pieces P p h = h _ _
 some-shown (bare (item node)) pieces P p h = h _ _
 some-shown (bare (character scalar)) pieces P p h = before_some (shown pieces)
@@ -231,7 +260,8 @@ some-shown (wrapped layer inner) pieces P p h = h _ _
 front : (node : ViewNode) (piece : Piece) (pieces : Pieces) (layers : List Layer) (right : List ViewNode) → PlainPieces (first piece pieces)
     → between (node ∷ shown (first piece pieces)) layers right ≡ node ∷ between (shown (first piece pieces)) layers right
 front node piece pieces layers right p =
-    some-shown piece pieces (λ nodes. between (node ∷ nodes) layers right ≡ node ∷ between nodes layers right) p (λ next rest. one_more node next rest layers right)
+    some-shown piece pieces (λ nodes. between (node ∷ nodes) layers right ≡ node ∷ between nodes layers right) p
+    (λ next rest. one_more node next rest layers right)
 
 -- behind a layer
 layer_behind : (other layer : Layer) (inner : Pieces) (layers : List Layer) (right : Pieces) → PlainPieces right
@@ -239,18 +269,22 @@ layer_behind : (other layer : Layer) (inner : Pieces) (layers : List Layer) (rig
     → shown (behind (wrapped other inner) (layer ∷ layers) right) ≡ between (in_layer other (shown inner) ∷ []) (layer ∷ layers) (shown right)
 layer_behind other layer inner layers right p h =
     elim (same_layer layer other) as (λ b. same_layer layer other ≡ b
-    → shown (if b then first (wrapped other (around inner layers (inner_first layer right))) (without_first layer right) else first (wrapped other inner) (put (layer ∷ layers) caret right))
+    → shown (if b then first (wrapped other (around inner layers (inner_first layer right))) (without_first layer right)
+    else first (wrapped other inner) (put (layer ∷ layers) caret right))
     ≡ (opened_if b [] (list_of (nodes_of (shown inner))) (in_layer other (shown inner) ∷ [])).0
-    ++ (in_layer layer (between (opened_if b [] (list_of (nodes_of (shown inner))) (in_layer other (shown inner) ∷ [])).1 layers (opened_first layer (shown right)).1) ∷ (opened_first layer (shown right)).0)) [
+    ++ (in_layer layer (between (opened_if b [] (list_of (nodes_of (shown inner))) (in_layer other (shown inner) ∷ [])).1 layers
+    (opened_first layer (shown right)).1) ∷ (opened_first layer (shown right)).0)) [
       | true ↦ λ e.
           ap (λ nodes. in_layer other nodes ∷ shown (without_first layer right)) h
-          ∙ (λ i. in_layer (sym (same_layer-true layer other e) i) (between (sym (list_of-nodes_of (shown inner)) i) layers (sym (first-shown layer right p) i).1) ∷ (sym (first-shown layer right p) i).0)
+          ∙ (λ i. in_layer (sym (same_layer-true layer other e) i)
+          (between (sym (list_of-nodes_of (shown inner)) i) layers (sym (first-shown layer right p) i).1) ∷ (sym (first-shown layer right p) i).0)
       | false ↦ λ e. ap (λ nodes. in_layer other (shown inner) ∷ nodes) (shown-put (layer ∷ layers) right p)
     ] refl
 
 mutual
   -- the nodes of a row with the caret in it
-  pub shown-around : (left : Pieces) (layers : List Layer) (right : Pieces) → PlainPieces left → PlainPieces right → shown (around left layers right) ≡ between (shown left) layers (shown right)
+  pub shown-around : (left : Pieces) (layers : List Layer) (right : Pieces) → PlainPieces left → PlainPieces right → shown (around left layers right)
+      ≡ between (shown left) layers (shown right)
   shown-around nothing layers right l p = shown-put layers right p
   shown-around (first piece nothing) layers right l p = shown-behind piece layers right l p
   shown-around (first (bare (leaf node)) (first next rest)) layers right l p =
@@ -259,13 +293,16 @@ mutual
       ap (λ nodes. node ∷ nodes) (shown-around (first next rest) layers right l.1 p) ∙ sym (front node next rest layers (shown right) l.1)
   shown-around (first (bare (character scalar)) (first next rest)) layers right l p =
       ap (character_before scalar) (shown-around (first next rest) layers right l.1 p)
-      ∙ some-shown next rest (λ nodes. character_before scalar (between nodes layers (shown right)) ≡ between (character_before scalar nodes) layers (shown right)) l.1
+      ∙ some-shown next rest (λ nodes. character_before scalar (between nodes layers (shown right))
+      ≡ between (character_before scalar nodes) layers (shown right)) l.1
       (λ node nodes. character-between scalar node nodes layers (shown right))
   shown-around (first (bare caret) (first next rest)) layers right l p = absurd cc
   shown-around (first (wrapped other inner) (first next rest)) layers right l p =
-      ap (λ nodes. in_layer other (shown inner) ∷ nodes) (shown-around (first next rest) layers right l.1 p) ∙ sym (front (in_layer other (shown inner)) next rest layers (shown right) l.1)
+      ap (λ nodes. in_layer other (shown inner) ∷ nodes) (shown-around (first next rest) layers right l.1 p)
+      ∙ sym (front (in_layer other (shown inner)) next rest layers (shown right) l.1)
 
-  shown-behind : (piece : Piece) (layers : List Layer) (right : Pieces) → PlainPieces (first piece nothing) → PlainPieces right → shown (behind piece layers right) ≡ between (shown (first piece nothing)) layers (shown right)
+  shown-behind : (piece : Piece) (layers : List Layer) (right : Pieces) → PlainPieces (first piece nothing) → PlainPieces right
+      → shown (behind piece layers right) ≡ between (shown (first piece nothing)) layers (shown right)
   shown-behind (bare (leaf (text scalars))) layers right l p = absurd cc
   shown-behind (bare (leaf (element head children))) layers right l p =
       ap (λ nodes. element head children ∷ nodes) (shown-put layers right p)

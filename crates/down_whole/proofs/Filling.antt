@@ -15,7 +15,8 @@ mutual
   unslotted content other (element kind name attributes children) e =
       ap (λ inner. nodes.element (head_of kind name attributes) (nodes_of inner) ∷ []) (unslotted_inner content other children e)
 
-  unslotted_inner : (content other : List ViewNode) (forms : Forms ViewAttributes) → inner_slots forms ≡ 0 → filled_inner content forms ≡ filled_inner other forms
+  unslotted_inner : (content other : List ViewNode) (forms : Forms ViewAttributes) → inner_slots forms ≡ 0 → filled_inner content forms
+      ≡ filled_inner other forms
   unslotted_inner content other none e = refl
   unslotted_inner content other (more form forms) e =
       let first : slot_count form ≡ 0 = omega (arith, e) in
@@ -23,18 +24,22 @@ mutual
       λ i. unslotted content other form first i ++ unslotted_inner content other forms rest i
 
 -- what is left behind a node fills the nodes behind it as the content would
-pub seam : (content : List ViewNode) (count : ℕ) (forms : Forms ViewAttributes) → count + inner_slots forms ≤ 1 → filled_inner (left_of count content) forms ≡ filled_inner content forms
+pub seam : (content : List ViewNode) (count : ℕ) (forms : Forms ViewAttributes) → count + inner_slots forms ≤ 1
+    → filled_inner (left_of count content) forms ≡ filled_inner content forms
 seam content zero forms few = refl
 seam content (suc count) forms few = unslotted_inner [] content forms (omega (arith, few))
 
 pub left_twice : (content : List ViewNode) (count more_count : ℕ) → left_of more_count (left_of count content) ≡ left_of (count + more_count) content
 left_twice content zero more_count = let sum : more_count ≡ zero + more_count = omega arith in ap (λ count. left_of count content) sum
 left_twice content (suc count) zero = let sum : suc count ≡ suc count + zero = omega arith in ap (λ count. left_of count content) sum
-left_twice content (suc count) (suc more_count) = let sum : suc (count + suc more_count) ≡ suc count + suc more_count = omega arith in ap (λ count. left_of count content) sum
+left_twice content (suc count) (suc more_count) = let sum : suc (count + suc more_count) ≡ suc count + suc more_count = omega arith
+    in ap (λ count. left_of count content) sum
 
 -- a node and those behind it are filled
-pub both_filled : (old filled_first made content left : List ViewNode) (form : Form ViewAttributes) (forms : Forms ViewAttributes) → slot_count form + inner_slots forms ≤ 1
-    → filled_first ≡ old ++ filled content form → left ≡ left_of (slot_count form) content → made ≡ filled_first ++ filled_inner left forms → made ≡ old ++ filled_inner content (more form forms)
+pub both_filled : (old filled_first made content left : List ViewNode) (form : Form ViewAttributes) (forms : Forms ViewAttributes)
+    → slot_count form + inner_slots forms ≤ 1
+    → filled_first ≡ old ++ filled content form → left ≡ left_of (slot_count form) content → made ≡ filled_first ++ filled_inner left forms
+    → made ≡ old ++ filled_inner content (more form forms)
 both_filled old filled_first made content left form forms few f l m =
     m ∙ (λ i. f i ++ filled_inner (l i) forms) ∙ append_assoc old (filled content form) (filled_inner (left_of (slot_count form) content) forms)
     ∙ ap (λ nodes. old ++ (filled content form ++ nodes)) (seam content (slot_count form) forms few)

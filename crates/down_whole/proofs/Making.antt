@@ -1,5 +1,6 @@
 -- What is made of items, one node of the tree after the other.
-use Rattle.std.proofs.Common.{◌≡◌, ◌≢◌, ℕ, ◌+◌, List, [], ◌∷◌, ◌++◌, length, map, true, false, ◌||◌, if◌then◌else◌, Option, Some, None, is_some, refl, sym, ap, ◌∙◌, subst, append_assoc, arith}
+use Rattle.std.proofs.Common.{◌≡◌, ◌≢◌, ℕ, ◌+◌, List, [], ◌∷◌, ◌++◌, length, map, true, false, ◌||◌, if◌then◌else◌, Option, Some, None, is_some, refl, sym, ap}
+use Rattle.std.proofs.Common.{◌∙◌, subst, append_assoc, arith}
 use Rattle.std.specs.Prelude.{IfSome}
 use Rattle.item_definitions.specs.Item.{Item, Attributes, character, element, items_of, list_of}
 use Rattle.operation_definitions.proofs.Lifting.{list_of-items_of}
@@ -20,26 +21,34 @@ use Rattle.down_whole.specs.Bound.{elements_among, bindings_among, Agree, with_b
 use Rattle.down_whole.specs.Found.{found_here, found_in_item, found_among}
 use Rattle.down_whole.specs.Front.{elements_within, front_row}
 use Rattle.down_whole.specs.Written.{Written, nothing_written, with_entry, with_row, character_in}
-use Rattle.down_whole.specs.Made.{run_row, Stretch, behind_items, whole, Stage, after_items, Made, MadeContent, finished, around_front, place_found, caret_found}
+use Rattle.down_whole.specs.Made.{run_row, Stretch, behind_items, whole, Stage, after_items, Made, MadeContent, finished, around_front, place_found}
+use Rattle.down_whole.specs.Made.{caret_found}
 use Rattle.down_whole.proofs.Bindings.{bindings-append, agree-front, agree-behind, with_bindings-append}
 use Rattle.down_whole.proofs.Rows.{inner-row-front, front-append, with_row-append}
 use Rattle.down_whole.proofs.WholeRow.{finish-none, finish-kept, finish-nowhere, finish-some, finish-found}
 
 run-more : (scene : Scene) (path : List ℕ) (offset at : ℕ) (attributes : Attributes) (scalars : List ℕ) (scalar : ℕ) → at ≡ offset + length scalars
     → run_row scene path offset attributes (scalars ++ scalar ∷ [])
-    ≡ run_row scene path offset attributes scalars ++ (boundary scene (path ++ at ∷ []) ++ (character_in (character_layers scene.conversion attributes (covering (path ++ at ∷ []) scene.markers)) scalar ∷ []))
+    ≡ run_row scene path offset attributes scalars
+    ++ (boundary scene (path ++ at ∷ [])
+    ++ (character_in (character_layers scene.conversion attributes (covering (path ++ at ∷ []) scene.markers)) scalar ∷ []))
 run-more scene path offset at attributes [] scalar e =
     let same : at ≡ offset = e ∙ omega arith in
-    ap (λ n. boundary scene (path ++ n ∷ []) ++ (character_in (character_layers scene.conversion attributes (covering (path ++ n ∷ []) scene.markers)) scalar ∷ [])) (sym same)
+    ap (λ n. boundary scene (path ++ n ∷ [])
+    ++ (character_in (character_layers scene.conversion attributes (covering (path ++ n ∷ []) scene.markers)) scalar ∷ [])) (sym same)
 run-more scene path offset at attributes (first ∷ scalars) scalar e =
     let same : at ≡ offset + 1 + length scalars = e ∙ omega arith in
     let here = boundary scene (path ++ offset ∷ []) in
-    ap (λ row. boundary scene (path ++ offset ∷ []) ++ (character_in (character_layers scene.conversion attributes (covering (path ++ offset ∷ []) scene.markers)) first ∷ row)) (run-more scene path (offset + 1) at attributes scalars scalar same)
-    ∙ sym (append_assoc here (character_in (character_layers scene.conversion attributes (covering (path ++ offset ∷ []) scene.markers)) first ∷ run_row scene path (offset + 1) attributes scalars) _)
+    ap (λ row. boundary scene (path ++ offset ∷ [])
+    ++ (character_in (character_layers scene.conversion attributes (covering (path ++ offset ∷ []) scene.markers)) first ∷ row))
+    (run-more scene path (offset + 1) at attributes scalars scalar same)
+    ∙ sym (append_assoc here (character_in (character_layers scene.conversion attributes (covering (path ++ offset ∷ []) scene.markers)) first
+    ∷ run_row scene path (offset + 1) attributes scalars) _)
 
 -- one character more is written
 pub run_step : (scene : Scene) (path : List ℕ) (offset at : ℕ) (attributes : Attributes) (scalars next : List ℕ) (scalar : ℕ) (start so_far bound now : Written)
-    → so_far ≡ with_row (run_row scene path offset attributes scalars) start → at ≡ offset + length scalars → bound ≡ with_row (boundary scene (path ++ at ∷ [])) so_far
+    → so_far ≡ with_row (run_row scene path offset attributes scalars) start → at ≡ offset + length scalars
+    → bound ≡ with_row (boundary scene (path ++ at ∷ [])) so_far
     → now ≡ with_entry (character_in (character_layers scene.conversion attributes (covering (path ++ at ∷ []) scene.markers)) scalar) bound
     → next ≡ scalars ++ scalar ∷ [] → now ≡ with_row (run_row scene path offset attributes next) start
 run_step scene path offset at attributes scalars next scalar start so_far bound now s a b n x =
@@ -52,19 +61,22 @@ run_step scene path offset at attributes scalars next scalar start so_far bound 
 -- ---- one stretch behind the other
 
 -- the caret is no matter of the bindings
-one-apart : (binding : Binding) (mapper : Mapper) (caret : Option CaretPlace) → with_binding binding (record mapper { caret = caret }) ≡ record (with_binding binding mapper) { caret = caret }
+one-apart : (binding : Binding) (mapper : Mapper) (caret : Option CaretPlace) → with_binding binding (record mapper { caret = caret })
+    ≡ record (with_binding binding mapper) { caret = caret }
 one-apart binding mapper caret =
     elim (is_some (bound_id binding.id mapper) || is_some (bound_number binding.number mapper)) as (λ b.
     ◌≡◌ {A = Mapper} (if b then record mapper { caret = caret } else record mapper { bindings = mapper.bindings ++ binding ∷ []; caret = caret })
     (record (if b then mapper else record mapper { bindings = mapper.bindings ++ binding ∷ [] }) { caret = caret })) [ true ↦ refl | false ↦ refl ]
 
-caret-apart : (bindings : List Binding) (mapper : Mapper) (caret : Option CaretPlace) → with_bindings bindings (record mapper { caret = caret }) ≡ record (with_bindings bindings mapper) { caret = caret }
+caret-apart : (bindings : List Binding) (mapper : Mapper) (caret : Option CaretPlace) → with_bindings bindings (record mapper { caret = caret })
+    ≡ record (with_bindings bindings mapper) { caret = caret }
 caret-apart [] mapper caret = refl
 caret-apart (binding ∷ bindings) mapper caret =
     ap (with_bindings bindings) (one-apart binding mapper caret) ∙ caret-apart bindings (with_binding binding mapper) caret
 
 found-append : (scene : Scene) (path : List ℕ) (offset : ℕ) (xs ys : List Item) (found : Option CaretPlace)
-    → found_among scene path offset (items_of (xs ++ ys)) found ≡ found_among scene path (offset + length xs) (items_of ys) (found_among scene path offset (items_of xs) found)
+    → found_among scene path offset (items_of (xs ++ ys)) found
+    ≡ found_among scene path (offset + length xs) (items_of ys) (found_among scene path offset (items_of xs) found)
 found-append scene path offset [] ys found =
     let same : offset ≡ offset + length {A = Item} [] = omega arith in
     ap (λ n. found_among scene path n (items_of ys) found) same
@@ -73,28 +85,34 @@ found-append scene path offset (first ∷ xs) ys found =
     found-append scene path (offset + 1) xs ys (found_in_item scene (path ++ offset ∷ []) first found)
     ∙ ap (λ n. found_among scene path n (items_of ys) (found_among scene path offset (items_of (first ∷ xs)) found)) same
 
-after-both : (scene : Scene) (at : Stretch) (xs ys : List Item) (stage : Stage) → after_items scene at (xs ++ ys) stage ≡ after_items scene (behind_items at xs) ys (after_items scene at xs stage)
+after-both : (scene : Scene) (at : Stretch) (xs ys : List Item) (stage : Stage) → after_items scene at (xs ++ ys) stage
+    ≡ after_items scene (behind_items at xs) ys (after_items scene at xs stage)
 after-both scene at xs ys stage =
     let bx = bindings_among scene.conversion at.parent at.before at.drawn (items_of xs) in
     let by = bindings_among scene.conversion at.parent (at.before + elements_within xs) (at.drawn + elements_among (items_of xs)) (items_of ys) in
     let caret = found_among scene at.path at.offset (items_of xs) stage.mapper.caret in
     let rows = ap (λ row. with_row row stage.row) (front-append scene at.parent at.path at.offset at.before xs ys)
-    ∙ with_row-append (front_row scene at.parent at.path at.offset at.before xs) (front_row scene at.parent at.path (at.offset + length xs) (at.before + elements_within xs) ys) stage.row in
+    ∙ with_row-append (front_row scene at.parent at.path at.offset at.before xs)
+    (front_row scene at.parent at.path (at.offset + length xs) (at.before + elements_within xs) ys) stage.row in
     let bound = ap (λ bindings. with_bindings bindings stage.mapper) (bindings-append scene.conversion at.parent at.before at.drawn xs ys)
     ∙ with_bindings-append bx by stage.mapper in
     let places = found-append scene at.path at.offset xs ys stage.mapper.caret in
     let apart = caret-apart by (with_bindings bx stage.mapper) caret in
     λ i. record {
       row = rows i;
-      mapper = record ((ap (λ (m : Mapper). record m { caret = found_among scene at.path at.offset (items_of (xs ++ ys)) stage.mapper.caret }) bound ∙ sym (ap (λ (m : Mapper). record m { caret = found_among scene at.path at.offset (items_of (xs ++ ys)) stage.mapper.caret }) apart)) i) { caret = places i };
+      mapper = record ((ap (λ (m : Mapper). record m { caret = found_among scene at.path at.offset (items_of (xs ++ ys)) stage.mapper.caret }) bound
+          ∙ sym (ap (λ (m : Mapper). record m { caret = found_among scene at.path at.offset (items_of (xs ++ ys)) stage.mapper.caret }) apart)) i)
+          { caret = places i };
     }
 
-made-both : (scene : Scene) (at : Stretch) (xs ys : List Item) (old middle new : Stage) → Made scene at xs old middle → Made scene (behind_items at xs) ys middle new → Made scene at (xs ++ ys) old new
+made-both : (scene : Scene) (at : Stretch) (xs ys : List Item) (old middle new : Stage) → Made scene at xs old middle
+    → Made scene (behind_items at xs) ys middle new → Made scene at (xs ++ ys) old new
 made-both scene at xs ys old middle new x y agree =
     let bx = bindings_among scene.conversion at.parent at.before at.drawn (items_of xs) in
     let by = bindings_among scene.conversion at.parent (at.before + elements_within xs) (at.drawn + elements_among (items_of xs)) (items_of ys) in
     let all : Agree scene.numbers (bx ++ by) = subst (Agree scene.numbers) (bindings-append scene.conversion at.parent at.before at.drawn xs ys) agree in
-    y (agree-behind scene.numbers bx by all) ∙ ap (after_items scene (behind_items at xs) ys) (x (agree-front scene.numbers bx by all)) ∙ sym (after-both scene at xs ys old)
+    y (agree-behind scene.numbers bx by all) ∙ ap (after_items scene (behind_items at xs) ys) (x (agree-front scene.numbers bx by all))
+    ∙ sym (after-both scene at xs ys old)
 
 -- a node's items more were made
 pub made-step : (scene : Scene) (parent path : List ℕ) (drawn offset before number : ℕ) (xs ys all : List Item) (old middle new : Stage)
@@ -113,17 +131,21 @@ made-step scene parent path drawn offset before number xs ys all old middle new 
 abbrev pub characters : Attributes → List ℕ → List Item
 characters attributes scalars = map (λ scalar. character scalar attributes) scalars
 
-front-run : (scene : Scene) (parent path : List ℕ) (offset before : ℕ) (attributes : Attributes) (scalars : List ℕ) → front_row scene parent path offset before (characters attributes scalars) ≡ run_row scene path offset attributes scalars
+front-run : (scene : Scene) (parent path : List ℕ) (offset before : ℕ) (attributes : Attributes) (scalars : List ℕ)
+    → front_row scene parent path offset before (characters attributes scalars) ≡ run_row scene path offset attributes scalars
 front-run scene parent path offset before attributes [] = refl
 front-run scene parent path offset before attributes (scalar ∷ scalars) =
-    ap (λ row. boundary scene (path ++ offset ∷ []) ++ (character_in (character_layers scene.conversion attributes (covering (path ++ offset ∷ []) scene.markers)) scalar ∷ row))
+    ap (λ row. boundary scene (path ++ offset ∷ [])
+    ++ (character_in (character_layers scene.conversion attributes (covering (path ++ offset ∷ []) scene.markers)) scalar ∷ row))
     (front-run scene parent path (offset + 1) (before + 0) attributes scalars)
 
-none-bound : (scene : Scene) (parent : List ℕ) (before drawn : ℕ) (attributes : Attributes) (scalars : List ℕ) → bindings_among scene.conversion parent before drawn (items_of (characters attributes scalars)) ≡ []
+none-bound : (scene : Scene) (parent : List ℕ) (before drawn : ℕ) (attributes : Attributes) (scalars : List ℕ)
+    → bindings_among scene.conversion parent before drawn (items_of (characters attributes scalars)) ≡ []
 none-bound scene parent before drawn attributes [] = refl
 none-bound scene parent before drawn attributes (scalar ∷ scalars) = none-bound scene parent (before + 0) (drawn + 0) attributes scalars
 
-none-found : (scene : Scene) (path : List ℕ) (offset : ℕ) (attributes : Attributes) (scalars : List ℕ) (found : Option CaretPlace) → found_among scene path offset (items_of (characters attributes scalars)) found ≡ found
+none-found : (scene : Scene) (path : List ℕ) (offset : ℕ) (attributes : Attributes) (scalars : List ℕ) (found : Option CaretPlace)
+    → found_among scene path offset (items_of (characters attributes scalars)) found ≡ found
 none-found scene path offset attributes [] found = refl
 none-found scene path offset attributes (scalar ∷ scalars) found = none-found scene path (offset + 1) attributes scalars found
 
@@ -137,7 +159,8 @@ none_within attributes (scalar ∷ scalars) = omega (arith, none_within attribut
 
 -- characters were written
 pub run-made : (scene : Scene) (at : Stretch) (attributes : Attributes) (scalars : List ℕ) (old new : Written) (mapper : Mapper)
-    → new ≡ with_row (run_row scene at.path at.offset attributes scalars) old → Made scene at (characters attributes scalars) (record { row = old; mapper = mapper }) (record { row = new; mapper = mapper })
+    → new ≡ with_row (run_row scene at.path at.offset attributes scalars) old
+    → Made scene at (characters attributes scalars) (record { row = old; mapper = mapper }) (record { row = new; mapper = mapper })
 run-made scene at attributes scalars old new mapper e agree =
     let row = e ∙ ap (λ row. with_row row old) (sym (front-run scene at.parent at.path at.offset at.before attributes scalars)) in
     let bound = ap (λ bindings. with_bindings bindings mapper) (sym (none-bound scene at.parent at.before at.drawn attributes scalars)) in
@@ -151,7 +174,8 @@ append-none [] = refl
 append-none (binding ∷ bindings) = ap (λ rest. binding ∷ rest) (append-none bindings)
 
 -- an element was made: what stands before it, then its content, then its view element
-pub element-made : (scene : Scene) (at : Stretch) (id : ℕ) (name : List ℕ) (attributes : Attributes) (list : List Item) (made : Converted) (content : List ViewNode) (layers : List Layer) (number : ℕ) (old bound new : Written) (mapper inner last : Mapper)
+pub element-made : (scene : Scene) (at : Stretch) (id : ℕ) (name : List ℕ) (attributes : Attributes) (list : List Item) (made : Converted)
+    (content : List ViewNode) (layers : List Layer) (number : ℕ) (old bound new : Written) (mapper inner last : Mapper)
     → made ≡ shape_at scene.conversion at.parent at.before name attributes
     → bound ≡ with_row (boundary scene (at.path ++ at.offset ∷ [])) old
     → MadeContent scene name (at.path ++ at.offset ∷ []) at.drawn list content mapper inner
@@ -167,11 +191,17 @@ element-made scene at id name attributes list made content layers number old bou
     let own : Binding = record { id = id; number = at.drawn + elements_among (items_of list); slot = slot_of shape.form } in
     let all : Agree scene.numbers (below ++ own ∷ []) = subst (Agree scene.numbers) (append-none (below ++ own ∷ [])) agree in
     let inside = c (agree-front scene.numbers below (own ∷ []) all) in
-    let numbered : scene.numbers id ≡ Some (at.drawn + elements_among (items_of list)) = All-head (λ (binding : Binding). scene.numbers binding.id ≡ Some binding.number) own [] (agree-behind scene.numbers below (own ∷ []) all) in
+    let numbered : scene.numbers id ≡ Some (at.drawn + elements_among (items_of list)) = All-head (λ (binding : Binding). scene.numbers binding.id
+    ≡ Some binding.number) own [] (agree-behind scene.numbers below (own ∷ []) all) in
     let nodes = inside.0 in
     let row : new ≡ with_row (boundary scene position ++ (entry_of scene at.parent position at.before (element id name attributes (items_of list)) ∷ [])) old =
     w
-    ∙ (λ i. with_entry (record { content = item (with_number ((ap Some n ∙ sym numbered) i) (only (filled (nodes i) ((ap (λ (m : Converted). m.form) m) i)))); layers = (l ∙ ap (λ (m : Converted). element_layers scene position name m.layers) m) i }) (b i))
+    ∙ (λ i. with_entry (record {
+      content =
+          item (with_number ((ap Some n ∙ sym numbered) i) (only (filled (nodes i) ((ap (λ (m : Converted). m.form) m) i))));
+      layers =
+          (l ∙ ap (λ (m : Converted). element_layers scene position name m.layers) m) i;
+    }) (b i))
     ∙ sym (with_row-append (boundary scene position) (entry_of scene at.parent position at.before (element id name attributes (items_of list)) ∷ []) old) in
     let place = found_here scene name position list scene.caret (found_among scene position 0 (items_of list) mapper.caret) in
     let placed : place ≡ found_here scene name position (list_of (items_of list)) scene.caret (found_among scene position 0 (items_of list) mapper.caret) =
@@ -189,19 +219,25 @@ element-made scene at id name attributes list made content layers number old bou
 
 -- ---- the whole content
 
-by-front : (scene : Scene) (parent path : List ℕ) (list : List Item) (here : Caret) (front : Option (List ViewNode)) (nodes : List ViewNode) (found : Option CaretPlace)
+by-front : (scene : Scene) (parent path : List ℕ) (list : List Item) (here : Caret) (front : Option (List ViewNode)) (nodes : List ViewNode)
+    (found : Option CaretPlace)
     → HaveShapes scene.conversion parent 0 (items_of list) → scene.caret ≡ Some here → here.at ≢ [] → IfSome scene.caret (λ here. here.at ≢ [])
     → with_row (row_of scene parent path list) nothing_written ≡ record { front = front; nodes = nodes }
-    → (around_front here front nodes ≡ nest (row_of scene parent path list)) × (place_found here front nodes found ≡ found_here scene parent path list scene.caret found)
-by-front scene parent path list here None nodes found s e d p w = (finish-none scene parent path list nodes s p w, sym (finish-kept scene parent path list nodes found s p w))
-by-front scene parent path list here (Some front) nodes found s e d p w =
-    (finish-some scene parent path list here here.layers front nodes s e d refl w, sym (finish-found scene parent path list here here.layers front nodes found s e d refl w))
+    → (around_front here front nodes ≡ nest (row_of scene parent path list))
+    × (place_found here front nodes found ≡ found_here scene parent path list scene.caret found)
+by-front scene parent path list here None nodes found s e d p w =
+    (finish-none scene parent path list nodes s p w, sym (finish-kept scene parent path list nodes found s p w))
+by-front scene parent path list here (Some front) nodes found s e d p w = (
+  finish-some scene parent path list here here.layers front nodes s e d refl w,
+  sym (finish-found scene parent path list here here.layers front nodes found s e d refl w),
+)
 
 no-caret : (scene : Scene) (parent path : List ℕ) (list : List Item) (front : Option (List ViewNode)) (nodes : List ViewNode)
     → HaveShapes scene.conversion parent 0 (items_of list) → scene.caret ≡ None → IfSome scene.caret (λ here. here.at ≢ [])
     → with_row (row_of scene parent path list) nothing_written ≡ record { front = front; nodes = nodes } → nodes ≡ nest (row_of scene parent path list)
 no-caret scene parent path list front nodes s e p w =
-    finish-none scene parent path list nodes s p (w ∙ ap (λ front. record { front = front; nodes = nodes }) (finish-nowhere scene parent path list front nodes s e w))
+    finish-none scene parent path list nodes s p (w
+    ∙ ap (λ front. record { front = front; nodes = nodes }) (finish-nowhere scene parent path list front nodes s e w))
 
 by-caret : (scene : Scene) (parent path : List ℕ) (list : List Item) (there : Option Caret) (end : Written) (found : Option CaretPlace)
     → HaveShapes scene.conversion parent 0 (items_of list) → scene.caret ≡ there → IfSome there (λ here. here.at ≢ [])
@@ -210,11 +246,13 @@ by-caret : (scene : Scene) (parent path : List ℕ) (list : List Item) (there : 
 by-caret scene parent path list None end found s e d w =
     (no-caret scene parent path list end.front end.nodes s e (subst (λ there. IfSome there (λ (here : Caret). here.at ≢ [])) (sym e) d) w, refl)
 by-caret scene parent path list (Some here) end found s e d w =
-    let made = by-front scene parent path list here end.front end.nodes found s e d (subst (λ there. IfSome there (λ (here : Caret). here.at ≢ [])) (sym e) d) w in
+    let made = by-front scene parent path list here end.front end.nodes found s e d
+    (subst (λ there. IfSome there (λ (here : Caret). here.at ≢ [])) (sym e) d) w in
     (made.0, made.1 ∙ ap (λ there. found_here scene parent path list there found) e)
 
 -- the content of an element was made: its items, what stands behind the last one, and the nodes of the row
-pub content-made : (scene : Scene) (parent path : List ℕ) (drawn offset : ℕ) (list all : List Item) (nodes : List ViewNode) (now end : Written) (old middle new : Mapper)
+pub content-made : (scene : Scene) (parent path : List ℕ) (drawn offset : ℕ) (list all : List Item) (nodes : List ViewNode) (now end : Written)
+    (old middle new : Mapper)
     → Made scene (whole parent path drawn) list (record { row = nothing_written; mapper = old }) (record { row = now; mapper = middle })
     → list ≡ all → offset ≡ length list → end ≡ with_row (boundary scene (path ++ offset ∷ [])) now
     → nodes ≡ finished scene.caret end → new ≡ record middle { caret = caret_found scene.caret end middle.caret }

@@ -44,11 +44,13 @@ agreed : (conversion : Conversion) (document : Document) → IsDistinct nat_eq (
     → Agree (numbers_of (all_bindings conversion document)) (bindings_among conversion (codes "$root") 0 0 (items_of document.items))
 agreed conversion document d = numbers-agree conversion (codes "$root") 0 0 document.items (all_bindings conversion document) d refl
 
-nodes-are : (conversion : Conversion) (document : Document) (nodes : List ViewNode) (new : Mapper) → AllMade conversion document nodes new → IsDistinct nat_eq (ids_of document.items)
+nodes-are : (conversion : Conversion) (document : Document) (nodes : List ViewNode) (new : Mapper) → AllMade conversion document nodes new
+    → IsDistinct nat_eq (ids_of document.items)
     → nodes ≡ numbered_downcast (numbers_of (all_bindings conversion document)) conversion document
 nodes-are conversion document nodes new m d = (m (numbers_of (all_bindings conversion document)) (agreed conversion document d)).0
 
-pub mapper-bindings : (conversion : Conversion) (document : Document) (nodes : List ViewNode) (new : Mapper) → AllMade conversion document nodes new → IsDistinct nat_eq (ids_of document.items)
+pub mapper-bindings : (conversion : Conversion) (document : Document) (nodes : List ViewNode) (new : Mapper) → AllMade conversion document nodes new
+    → IsDistinct nat_eq (ids_of document.items)
     → new.bindings ≡ bindings_among conversion (codes "$root") 0 0 (items_of document.items)
 mapper-bindings conversion document nodes new m d =
     ap (λ (m : Mapper). m.bindings) ((m (numbers_of (all_bindings conversion document)) (agreed conversion document d)).1)
@@ -59,7 +61,8 @@ items-distinct state s = distinct-front (ids_of state.document.items) (flat_map 
 
 -- the view is the downcast
 pub view_is : (conversion : Conversion) (state : State) (nodes : List ViewNode) (new : Mapper) → IsSound state
-    → ((numbers : Numbers) → MadeContent (numbered_scene numbers conversion state.document) (codes "$root") [] 0 state.document.items nodes (record { bindings = []; caret = None }) new)
+    → ((numbers : Numbers) → MadeContent (numbered_scene numbers conversion state.document) (codes "$root") [] 0 state.document.items nodes
+    (record { bindings = []; caret = None }) new)
     → content nodes ≡ downcast conversion state.document
 view_is conversion state nodes new s m =
     ap content (nodes-are conversion state.document nodes new m (items-distinct state s))
@@ -67,7 +70,8 @@ view_is conversion state nodes new s m =
 
 -- and the mapper is that of the view
 pub mapper_is : (conversion : Conversion) (state : State) (nodes : List ViewNode) (new : Mapper) → IsSound state
-    → ((numbers : Numbers) → MadeContent (numbered_scene numbers conversion state.document) (codes "$root") [] 0 state.document.items nodes (record { bindings = []; caret = None }) new)
+    → ((numbers : Numbers) → MadeContent (numbered_scene numbers conversion state.document) (codes "$root") [] 0 state.document.items nodes
+    (record { bindings = []; caret = None }) new)
     → HasShapes conversion state.document → IsMapped conversion state.document new nodes
 mapper_is conversion state nodes new s m shaped =
     let document = state.document in
@@ -85,8 +89,10 @@ mapper_is conversion state nodes new s m shaped =
     }
 
 -- what was made of the root's items in the scene of a document
-pub whole_made : (conversion : Conversion) (document : Document) (numbers : Numbers) (scene : Scene) (parent path : List ℕ) (drawn : ℕ) (list : List Item) (nodes shown : List ViewNode) (old new : Mapper)
-    → scene ≡ numbered_scene numbers conversion document → parent ≡ codes "$root" → path ≡ [] → drawn ≡ 0 → list ≡ document.items → shown ≡ nodes → old ≡ unbound
+pub whole_made : (conversion : Conversion) (document : Document) (numbers : Numbers) (scene : Scene) (parent path : List ℕ) (drawn : ℕ)
+    (list : List Item) (nodes shown : List ViewNode) (old new : Mapper)
+    → scene ≡ numbered_scene numbers conversion document → parent ≡ codes "$root" → path ≡ [] → drawn ≡ 0 → list ≡ document.items → shown ≡ nodes
+    → old ≡ unbound
     → MadeContent scene parent path drawn list nodes old new
     → MadeContent (numbered_scene numbers conversion document) (codes "$root") [] 0 document.items shown unbound new
 whole_made conversion document numbers scene parent path drawn list nodes shown old new s p q d l n o m =
@@ -99,5 +105,7 @@ whole_made conversion document numbers scene parent path drawn list nodes shown 
     (subst (λ old. MadeContent scene parent path drawn list nodes old new) o m))))))
 
 -- the caret stands at a position
-pub placed : (conversion : Conversion) (state : State) (there : Option Caret) → IsSound state → there ≡ caret_of conversion state.document → IfSome there (λ here. here.at ≢ [])
-placed conversion state there s e = subst (λ there. IfSome there (λ (here : Caret). here.at ≢ [])) (sym e) (caret-some conversion state.document s.selection.0.0)
+pub placed : (conversion : Conversion) (state : State) (there : Option Caret) → IsSound state → there ≡ caret_of conversion state.document
+    → IfSome there (λ here. here.at ≢ [])
+placed conversion state there s e = subst (λ there. IfSome there (λ (here : Caret). here.at ≢ [])) (sym e)
+    (caret-some conversion state.document s.selection.0.0)

@@ -1,5 +1,6 @@
 -- Exactly the elements of a document are bound, and no two to one view element.
-use Rattle.std.proofs.Common.{◌≡◌, ℕ, ◌+◌, ◌*◌, ◌<◌, ◌≤◌, ◌==◌, nat_lt, ◌||◌, List, [], ◌∷◌, length, length-append, inl, inr, Bool, true, false, if◌then◌else◌, Option, Some, None, refl, sym, ap, ◌∙◌, subst, arith}
+use Rattle.std.proofs.Common.{◌≡◌, ℕ, ◌+◌, ◌*◌, ◌<◌, ◌≤◌, ◌==◌, nat_lt, ◌||◌, List, [], ◌∷◌, length, length-append, inl, inr, Bool, true, false, if◌then◌else◌}
+use Rattle.std.proofs.Common.{Option, Some, None, refl, sym, ap, ◌∙◌, subst, arith}
 use Rattle.std.proofs.lemmas.Bool.Decides.{nat_tests}
 use Rattle.std.specs.Prelude.{is_some, option_map, cond, codes}
 use Rattle.std.specs.List.{find, list_any}
@@ -29,7 +30,8 @@ bound id [] = refl
 bound id (binding ∷ bindings) = go (binding.id == id) (bound id bindings)
   where
     go : (t : Bool) → is_some (find (λ binding. binding.id == id) bindings) ≡ nat_lt 0 (held (λ binding. binding.id) id bindings)
-        → is_some (cond t (Some binding) (find (λ binding. binding.id == id) bindings)) ≡ nat_lt 0 ((if t then 1 else 0) + held (λ binding. binding.id) id bindings)
+        → is_some (cond t (Some binding) (find (λ binding. binding.id == id) bindings))
+        ≡ nat_lt 0 ((if t then 1 else 0) + held (λ binding. binding.id) id bindings)
     go true rest = sym (some_more (held (λ binding. binding.id) id bindings))
     go false rest = rest ∙ sym (none_more (held (λ binding. binding.id) id bindings))
 
@@ -38,7 +40,8 @@ stands : (id : ℕ) (ids : List ℕ) → list_any (λ other. other == id) ids �
 stands id [] = refl
 stands id (other ∷ ids) = ap (λ t. t || list_any (λ other. other == id) ids) (flipped other id) ∙ go (id == other) (stands id ids)
   where
-    go : (t : Bool) → list_any (λ other. other == id) ids ≡ nat_lt 0 (times id ids) → (t || list_any (λ other. other == id) ids) ≡ nat_lt 0 ((if t then 1 else 0) + times id ids)
+    go : (t : Bool) → list_any (λ other. other == id) ids ≡ nat_lt 0 (times id ids) → (t || list_any (λ other. other == id) ids)
+        ≡ nat_lt 0 ((if t then 1 else 0) + times id ids)
     go true rest = sym (some_more (times id ids))
     go false rest = rest ∙ sym (none_more (times id ids))
 
@@ -49,12 +52,15 @@ record IsBoundSo (bindings : List Binding) (id number : ℕ) : Type 0 where
   has_id : binding.id ≡ id
   has_number : binding.number ≡ number
 
-bound-so : (bindings : List Binding) (id number : ℕ) → option_map (λ binding. binding.number) (find (λ binding. binding.id == id) bindings) ≡ Some number → IsBoundSo bindings id number
+bound-so : (bindings : List Binding) (id number : ℕ) → option_map (λ binding. binding.number) (find (λ binding. binding.id == id) bindings)
+    ≡ Some number → IsBoundSo bindings id number
 bound-so [] id number e = cc
 bound-so (first ∷ bindings) id number e = go (first.id == id) refl e (bound-so bindings id number)
   where
-    go : (t : Bool) → (first.id == id) ≡ t → option_map (λ binding. binding.number) (cond t (Some first) (find (λ binding. binding.id == id) bindings)) ≡ Some number
-        → (option_map (λ binding. binding.number) (find (λ binding. binding.id == id) bindings) ≡ Some number → IsBoundSo bindings id number) → IsBoundSo (first ∷ bindings) id number
+    go : (t : Bool) → (first.id == id) ≡ t → option_map (λ binding. binding.number) (cond t (Some first) (find (λ binding. binding.id == id) bindings))
+        ≡ Some number
+        → (option_map (λ binding. binding.number) (find (λ binding. binding.id == id) bindings) ≡ Some number → IsBoundSo bindings id number)
+        → IsBoundSo (first ∷ bindings) id number
     go true t f rest = record { binding = first; among = inl refl; has_id = equal first.id id t; has_number = cc }
     go false t f rest = (let b = rest f in record { binding = b.binding; among = inr b.among; has_id = b.has_id; has_number = b.has_number })
 
@@ -70,20 +76,31 @@ one-id bindings o id other number a b =
     sym a.has_id ∙ ap (λ (binding : Binding). binding.id) equals ∙ b.has_id
 
 mutual
-  below-of : (conversion : Conversion) (parent : List ℕ) (before drawn : ℕ) (item : Item) (binding : Binding) → Among binding (bindings_of conversion parent before drawn item) → binding.number < drawn + elements_of item
+  below-of : (conversion : Conversion) (parent : List ℕ) (before drawn : ℕ) (item : Item) (binding : Binding)
+      → Among binding (bindings_of conversion parent before drawn item) → binding.number < drawn + elements_of item
   below-of conversion parent before drawn (character scalar attributes) binding a = absurd a
   below-of conversion parent before drawn (element id name attributes children) binding a =
       let inside = bindings_among conversion name 0 drawn children in
-      let last : Binding = record { id = id; number = drawn + elements_among children; slot = slot_of (shape_at conversion parent before name attributes).form } in
+      let last : Binding = record {
+        id = id;
+        number = drawn + elements_among children;
+        slot =
+            slot_of (shape_at conversion parent before name attributes).form;
+      } in
       elim (among-join binding inside (last ∷ []) a) [
         | inl b ↦ (let n = below-among conversion name 0 drawn children binding b in omega (arith, n))
-        | inr b ↦ elim b [ inl e ↦ (let n : binding.number ≡ drawn + elements_among children = ap (λ (b : Binding). b.number) e in omega (arith, n)) | inr none_left ↦ absurd none_left ]
+        | inr b ↦ elim b [
+          | inl e ↦ (let n : binding.number ≡ drawn + elements_among children = ap (λ (b : Binding). b.number) e in omega (arith, n))
+          | inr none_left ↦ absurd none_left
+        ]
       ]
 
-  below-among : (conversion : Conversion) (parent : List ℕ) (before drawn : ℕ) (list : Items) (binding : Binding) → Among binding (bindings_among conversion parent before drawn list) → binding.number < drawn + elements_among list
+  below-among : (conversion : Conversion) (parent : List ℕ) (before drawn : ℕ) (list : Items) (binding : Binding)
+      → Among binding (bindings_among conversion parent before drawn list) → binding.number < drawn + elements_among list
   below-among conversion parent before drawn none binding a = absurd a
   below-among conversion parent before drawn (more item rest) binding a =
-      elim (among-join binding (bindings_of conversion parent before drawn item) (bindings_among conversion parent (before + elements_in item) (drawn + elements_of item) rest) a) [
+      elim (among-join binding (bindings_of conversion parent before drawn item)
+      (bindings_among conversion parent (before + elements_in item) (drawn + elements_of item) rest) a) [
         | inl b ↦ (let n = below-of conversion parent before drawn item binding b in omega (arith, n))
         | inr b ↦ (let n = below-among conversion parent (before + elements_in item) (drawn + elements_of item) rest binding b in omega (arith, n))
       ]
@@ -114,12 +131,14 @@ numbered_is conversion state nodes new s m =
     kept (Some binding) = refl
 
 -- each number that is bound was drawn
-pub below_is : (conversion : Conversion) (state : State) (nodes : List ViewNode) (new : Mapper) (drawn : ℕ) → IsSound state → AllMade conversion state.document nodes new
+pub below_is : (conversion : Conversion) (state : State) (nodes : List ViewNode) (new : Mapper) (drawn : ℕ) → IsSound state
+    → AllMade conversion state.document nodes new
     → drawn ≡ elements_among (items_of state.document.items) → AreBelow drawn (numbers_of new)
 below_is conversion state nodes new drawn s m d = λ id number e.
     let items = items_of state.document.items in
     let is = mapper-bindings conversion state.document nodes new m (items-distinct state s) in
-    let b = bound-so (bindings_among conversion (codes "$root") 0 0 items) id number (ap (λ all. option_map (λ (binding : Binding). binding.number) (find (λ binding. binding.id == id) all)) (sym is) ∙ e) in
+    let b = bound-so (bindings_among conversion (codes "$root") 0 0 items) id number
+    (ap (λ all. option_map (λ (binding : Binding). binding.number) (find (λ binding. binding.id == id) all)) (sym is) ∙ e) in
     let less = below-among conversion (codes "$root") 0 0 items b.binding b.among in
     omega (arith, b.has_number)
 

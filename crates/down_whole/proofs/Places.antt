@@ -1,5 +1,6 @@
 -- Where the caret of a document is found.
-use Rattle.std.proofs.Common.{◌≡◌, ◌≢◌, ℕ, ◌+◌, ◌≤◌, zero, suc, List, [], ◌∷◌, ◌++◌, length, Bool, true, false, not, ◌&&◌, if◌then◌else◌, Option, Some, None, IfSome, refl, sym, ap, ◌∙◌, append_assoc, arith}
+use Rattle.std.proofs.Common.{◌≡◌, ◌≢◌, ℕ, ◌+◌, ◌≤◌, zero, suc, List, [], ◌∷◌, ◌++◌, length, Bool, true, false, not, ◌&&◌, if◌then◌else◌, Option, Some, None}
+use Rattle.std.proofs.Common.{IfSome, refl, sym, ap, ◌∙◌, append_assoc, arith}
 use Rattle.std.proofs.lemmas.List.{append_cancel_left}
 use Rattle.std.specs.Prelude.{IsSomeAnd, slice_get, option_map, option_and_then, codes}
 use Rattle.item_definitions.specs.Item.{Item, Items, items_of, list_of, inner}
@@ -29,12 +30,14 @@ first_of [] = 0
 first_of (index ∷ path) = index
 
 -- a position in the item at an index is outside the one at another
-other-item : (path : List ℕ) (number index : ℕ) (rest position : List ℕ) → position ≡ path ++ number ∷ rest → number ≢ index → Outside (path ++ index ∷ []) position
+other-item : (path : List ℕ) (number index : ℕ) (rest position : List ℕ) → position ≡ path ++ number ∷ rest → number ≢ index
+    → Outside (path ++ index ∷ []) position
 other-item path number index rest position e d others k =
     d (ap first_of (append_cancel_left path (number ∷ rest) (index ∷ others) (sym e ∙ k ∙ append_assoc path (index ∷ []) others)))
 
 -- and not directly in the content
-deeper : (path : List ℕ) (count index next : ℕ) (rest position : List ℕ) → position ≡ path ++ index ∷ next ∷ rest → position ≢ [] → is_in_content path count position ≡ false
+deeper : (path : List ℕ) (count index next : ℕ) (rest position : List ℕ) → position ≡ path ++ index ∷ next ∷ rest → position ≢ []
+    → is_in_content path count position ≡ false
 deeper path count index next rest position e d =
     elim (is_in_content path count position) as (λ b. is_in_content path count position ≡ b → b ≡ false) [
       | true ↦ λ t.
@@ -61,14 +64,16 @@ module _ (scene : Scene) (here : Caret) (is : scene.caret ≡ Some here) (some :
         found-out scene name path (list_of children) scene.caret (found_among scene path 0 children found) (out-of path (length (list_of children)) o)
         ∙ items-outside path 0 children found (λ index h rest k. o (index ∷ rest) (k ∙ append_assoc path (index ∷ []) rest))
 
-    items-outside : (path : List ℕ) (offset : ℕ) (list : Items) (found : Option CaretPlace) → ((index : ℕ) → offset ≤ index → Outside (path ++ index ∷ []) here.at) → found_among scene path offset list found ≡ found
+    items-outside : (path : List ℕ) (offset : ℕ) (list : Items) (found : Option CaretPlace)
+        → ((index : ℕ) → offset ≤ index → Outside (path ++ index ∷ []) here.at) → found_among scene path offset list found ≡ found
     items-outside path offset items.none found o = refl
     items-outside path offset (items.more of rest) found o =
         ap (found_among scene path (offset + 1) rest) (item-outside (path ++ offset ∷ []) of found (o offset (omega arith)))
         ∙ items-outside path (offset + 1) rest found (λ index h. o index (omega (arith, h)))
 
   -- what is found in the item that the position is in
-  among-at : (path : List ℕ) (list : List Item) (offset index number : ℕ) (rest : List ℕ) (of : Item) (result : Option CaretPlace) → number ≡ offset + index → slice_get list index ≡ Some of
+  among-at : (path : List ℕ) (list : List Item) (offset index number : ℕ) (rest : List ℕ) (of : Item) (result : Option CaretPlace)
+      → number ≡ offset + index → slice_get list index ≡ Some of
       → here.at ≡ path ++ number ∷ rest → ((found : Option CaretPlace) → found_in_item scene (path ++ number ∷ []) of found ≡ result)
       → (found : Option CaretPlace) → found_among scene path offset (items_of list) found ≡ result
   among-at path [] offset index number rest of result n e k h found = absurd cc
@@ -85,19 +90,23 @@ module _ (scene : Scene) (here : Caret) (is : scene.caret ≡ Some here) (some :
   abbrev IsFound : List ℕ → Type 0
   IsFound position =
       (name path : List ℕ) (list : List Item) → IsWithin list position → here.at ≡ path ++ position → (found : Option CaretPlace)
-      → found_here scene name path list scene.caret (found_among scene path 0 (items_of list) found) ≡ Some (record { at = here.at; place = place_in scene name path list position })
+      → found_here scene name path list scene.caret (found_among scene path 0 (items_of list) found)
+      ≡ Some (record { at = here.at; place = place_in scene name path list position })
 
   inside : (path : List ℕ) (list : List Item) (index next : ℕ) (rest : List ℕ) (there : Option Item) (found : Option CaretPlace) → IsFound (next ∷ rest)
       → slice_get list index ≡ there
-      → IsSomeAnd (option_map length (option_and_then (λ of. option_and_then (children_at (parent_of (next ∷ rest))) (inner of)) there)) (λ count. offset_of (next ∷ rest) ≤ count)
+      → IsSomeAnd (option_map length (option_and_then (λ of. option_and_then (children_at (parent_of (next ∷ rest))) (inner of)) there))
+      (λ count. offset_of (next ∷ rest) ≤ count)
       → here.at ≡ path ++ index ∷ next ∷ rest
-      → found_among scene path 0 (items_of list) found ≡ Some (record { at = here.at; place = in_children (λ name inner. place_in scene name (path ++ index ∷ []) inner (next ∷ rest)) there })
+      → found_among scene path 0 (items_of list) found
+      ≡ Some (record { at = here.at; place = in_children (λ name inner. place_in scene name (path ++ index ∷ []) inner (next ∷ rest)) there })
   inside path list index next rest None found ih e h k = absurd h
   inside path list index next rest (Some (items.character scalar attributes)) found ih e h k = absurd h
   inside path list index next rest (Some (items.element id name attributes children)) found ih e h k =
       let result : Option CaretPlace = Some (record { at = here.at; place = place_in scene name (path ++ index ∷ []) (list_of children) (next ∷ rest) }) in
       among-at path list 0 index index (next ∷ rest) (items.element id name attributes children) result (omega arith) e k
-      (λ found. ap (λ all. found_here scene name (path ++ index ∷ []) (list_of children) scene.caret (found_among scene (path ++ index ∷ []) 0 all found)) (sym (same-items children))
+      (λ found. ap (λ all. found_here scene name (path ++ index ∷ []) (list_of children) scene.caret
+      (found_among scene (path ++ index ∷ []) 0 all found)) (sym (same-items children))
       ∙ ih name (path ++ index ∷ []) (list_of children) h (k ∙ sym (append_assoc path (index ∷ []) (next ∷ rest))) found)
       found
 
@@ -134,19 +143,22 @@ found-all scene name list None e h =
 found-all scene name list (Some here) e h = found-inside scene here e h.0 here.at h.0 name [] list h.1 refl None
 
 -- the caret stands at the start of the selection
-pub caret-in : (conversion : Conversion) (document : Document) → IsIn document.items document.selection.range.start → IfSome (caret_of conversion document) (λ here. IsIn document.items here.at)
+pub caret-in : (conversion : Conversion) (document : Document) → IsIn document.items document.selection.range.start
+    → IfSome (caret_of conversion document) (λ here. IsIn document.items here.at)
 caret-in conversion document h =
     let at = document.selection.range.start in
     let layers = typed_layers conversion document.markers at (attributes document.items document.selection) in
     let plain = typed_layers conversion document.markers at (natural document.items document.selection) in
     go (is_collapsed document.selection.range && not (same_layers layers plain)) layers
   where
-    go : (t : Bool) (layers : List Layer) → IfSome (if t then Some (record { at = document.selection.range.start; layers = layers }) else None) (λ (here : Caret). IsIn document.items here.at)
+    go : (t : Bool) (layers : List Layer) → IfSome (if t then Some (record { at = document.selection.range.start; layers = layers }) else None)
+        (λ (here : Caret). IsIn document.items here.at)
     go true layers = h
     go false layers = tt
 
 -- a position in items isn't the empty one
-pub caret-some : (conversion : Conversion) (document : Document) → IsIn document.items document.selection.range.start → IfSome (caret_of conversion document) (λ here. here.at ≢ [])
+pub caret-some : (conversion : Conversion) (document : Document) → IsIn document.items document.selection.range.start
+    → IfSome (caret_of conversion document) (λ here. here.at ≢ [])
 caret-some conversion document h = go (caret_of conversion document) (caret-in conversion document h)
   where
     go : (there : Option Caret) → IfSome there (λ here. IsIn document.items here.at) → IfSome there (λ here. here.at ≢ [])

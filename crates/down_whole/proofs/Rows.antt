@@ -14,7 +14,8 @@ within-append (item ∷ xs) ys = omega (arith, within-append xs ys)
 
 -- a row ends with the boundary behind its items
 pub inner-row-front : (scene : Scene) (parent path : List ℕ) (offset before : ℕ) (list : List Item)
-    → inner_row scene parent path offset before (items_of list) ≡ front_row scene parent path offset before list ++ boundary scene (path ++ (offset + length list) ∷ [])
+    → inner_row scene parent path offset before (items_of list) ≡ front_row scene parent path offset before list
+    ++ boundary scene (path ++ (offset + length list) ∷ [])
 inner-row-front scene parent path offset before [] = ap (λ n. boundary scene (path ++ n ∷ [])) (let e : offset ≡ offset + 0 = omega arith in e)
 inner-row-front scene parent path offset before (item ∷ list) =
     let here = boundary scene (path ++ offset ∷ []) in
@@ -22,12 +23,14 @@ inner-row-front scene parent path offset before (item ∷ list) =
     let rest = front_row scene parent path (offset + 1) (before + elements_in item) list in
     ap (λ row. boundary scene (path ++ offset ∷ []) ++ (entry_of scene parent (path ++ offset ∷ []) before item ∷ row))
     (inner-row-front scene parent path (offset + 1) (before + elements_in item) list
-    ∙ ap (λ n. front_row scene parent path (offset + 1) (before + elements_in item) list ++ boundary scene (path ++ n ∷ [])) (let e : offset + 1 + length list ≡ offset + length (item ∷ list) = omega arith in e))
+    ∙ ap (λ n. front_row scene parent path (offset + 1) (before + elements_in item) list ++ boundary scene (path ++ n ∷ []))
+    (let e : offset + 1 + length list ≡ offset + length (item ∷ list) = omega arith in e))
     ∙ sym (append_assoc here (entry ∷ rest) (boundary scene (path ++ (offset + length (item ∷ list)) ∷ [])))
 
 -- the row of two lists
 pub front-append : (scene : Scene) (parent path : List ℕ) (offset before : ℕ) (xs ys : List Item)
-    → front_row scene parent path offset before (xs ++ ys) ≡ front_row scene parent path offset before xs ++ front_row scene parent path (offset + length xs) (before + elements_within xs) ys
+    → front_row scene parent path offset before (xs ++ ys) ≡ front_row scene parent path offset before xs
+    ++ front_row scene parent path (offset + length xs) (before + elements_within xs) ys
 front-append scene parent path offset before [] ys =
     let n : offset ≡ offset + 0 = omega arith in
     let m : before ≡ before + 0 = omega arith in

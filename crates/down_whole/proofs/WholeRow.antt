@@ -1,5 +1,6 @@
 -- What is written of a whole row is what it nests to, and the caret is found where it is seen.
-use Rattle.std.proofs.Common.{◌≡◌, ◌≢◌, ℕ, ◌+◌, ◌-◌, ◌≤◌, zero, suc, List, [], ◌∷◌, ◌++◌, length, Bool, true, false, ◌&&◌, if◌then◌else◌, Option, Some, None, IfSome, refl, sym, ap, ◌∙◌, subst, append_assoc, append-nil, arith, length-append}
+use Rattle.std.proofs.Common.{◌≡◌, ◌≢◌, ℕ, ◌+◌, ◌-◌, ◌≤◌, zero, suc, List, [], ◌∷◌, ◌++◌, length, Bool, true, false, ◌&&◌, if◌then◌else◌, Option, Some, None}
+use Rattle.std.proofs.Common.{IfSome, refl, sym, ap, ◌∙◌, subst, append_assoc, append-nil, arith, length-append}
 use Rattle.std.proofs.lemmas.Bool.Decides.{nat_tests}
 use Rattle.std.specs.Prelude.{nat_le, option_map}
 use Rattle.std.specs.Cmp.Lexicographic.{same_text, other_text}
@@ -34,7 +35,8 @@ use Rattle.down_whole.proofs.Rows.{with_row-append}
 
 -- ---- rows without the caret, and around it
 
-content-written : (content : Content) (entry : Entry) (written : Written) → is_plain content ≡ true → with_content content entry written ≡ record written { nodes = join written.nodes (nest (entry ∷ [])) }
+content-written : (content : Content) (entry : Entry) (written : Written) → is_plain content ≡ true → with_content content entry written
+    ≡ record written { nodes = join written.nodes (nest (entry ∷ [])) }
 content-written (leaf node) entry written p = refl
 content-written (item node) entry written p = refl
 content-written (character scalar) entry written p = refl
@@ -73,7 +75,8 @@ place-around row layers other p q =
 
 -- ---- boundaries
 
-leaf-plain : (test : Bool) (view : Option Leaf) (row : List Entry) → IsPlainRow row → IsPlainRow (cons_option (if test then option_map leaf_entry view else None) row)
+leaf-plain : (test : Bool) (view : Option Leaf) (row : List Entry) → IsPlainRow row
+    → IsPlainRow (cons_option (if test then option_map leaf_entry view else None) row)
 leaf-plain true None row h = h
 leaf-plain true (Some view) row h = (refl, h)
 leaf-plain false view row h = h
@@ -102,7 +105,8 @@ no-carets (Some here) position e = ap (λ b. if b then caret_entry here ∷ [] e
 -- a boundary without the caret
 boundary-plain : (scene : Scene) (position : List ℕ) → has_caret scene.caret position ≡ false → IsPlainRow (boundary scene position)
 boundary-plain scene position e =
-    subst IsPlainRow (sym (boundary-is scene position ∙ ap (λ row. leaves_at scene position ++ row) (no-carets scene.caret position e) ∙ append-nil (leaves_at scene position)))
+    subst IsPlainRow (sym (boundary-is scene position ∙ ap (λ row. leaves_at scene position ++ row) (no-carets scene.caret position e)
+    ∙ append-nil (leaves_at scene position)))
     (leaves_at-plain scene position)
 
 -- and with it
@@ -115,9 +119,11 @@ boundary-around scene here position e t =
 
 -- ---- the entries of items
 
-entry-plain : (scene : Scene) (parent path : List ℕ) (before : ℕ) (of : Item) → HasShape scene.conversion parent before of → is_plain (entry_of scene parent path before of).content ≡ true
+entry-plain : (scene : Scene) (parent path : List ℕ) (before : ℕ) (of : Item) → HasShape scene.conversion parent before of
+    → is_plain (entry_of scene parent path before of).content ≡ true
 entry-plain scene parent path before (items.character scalar attributes) h = refl
-entry-plain scene parent path before (items.element id name attributes children) h = entry-stands scene parent path before (items.element id name attributes children) h
+entry-plain scene parent path before (items.element id name attributes children) h = entry-stands scene parent path before
+    (items.element id name attributes children) h
 
 -- a row at whose boundaries no caret stands
 pub row-plain : (scene : Scene) (parent path : List ℕ) (offset before : ℕ) (list : List Item) → HaveShapes scene.conversion parent before (items_of list)
@@ -163,11 +169,14 @@ parted-here scene parent path offset before (of ∷ list) s h = record {
   );
 }
 
-entries-more : (scene : Scene) (path : List ℕ) (offset at : ℕ) (front : List Entry) (entry : Entry) → entries_before scene path at ≡ entries_before scene path (offset + 1) + length front
+entries-more : (scene : Scene) (path : List ℕ) (offset at : ℕ) (front : List Entry) (entry : Entry) → entries_before scene path at
+    ≡ entries_before scene path (offset + 1) + length front
     → entries_before scene path at ≡ entries_before scene path offset + length (boundary scene (path ++ offset ∷ []) ++ (entry ∷ front))
 entries-more scene path offset at front entry e =
-    let next : entries_before scene path (offset + 1) ≡ entries_before scene path offset + length (boundary scene (path ++ offset ∷ [])) + 1 = ap (entries_before scene path) (let k : offset + 1 ≡ suc offset = omega arith in k) in
-    let long : length (boundary scene (path ++ offset ∷ []) ++ (entry ∷ front)) ≡ length (boundary scene (path ++ offset ∷ [])) + suc (length front) = length-append (boundary scene (path ++ offset ∷ [])) (entry ∷ front) in
+    let next : entries_before scene path (offset + 1) ≡ entries_before scene path offset + length (boundary scene (path ++ offset ∷ [])) + 1 =
+    ap (entries_before scene path) (let k : offset + 1 ≡ suc offset = omega arith in k) in
+    let long : length (boundary scene (path ++ offset ∷ []) ++ (entry ∷ front)) ≡ length (boundary scene (path ++ offset ∷ [])) + suc (length front) =
+    length-append (boundary scene (path ++ offset ∷ [])) (entry ∷ front) in
     omega (arith, e, next, long)
 
 parted : (scene : Scene) (parent path : List ℕ) (list : List Item) (offset before count at : ℕ) → at ≡ offset + count → count ≤ length list
@@ -227,20 +236,24 @@ offset-in path count at h =
 pub content-offset : (path : List ℕ) (count : ℕ) (position : List ℕ) → position ≢ [] → is_in_content path count position ≡ true
     → (position ≡ path ++ offset_of position ∷ []) × (offset_of position ≤ count)
 content-offset path count position d h =
-    let both = and-both (same_position (parent_of position) path) (nat_le (offset_of position) count) h in
-    (path-joined position d ∙ ap (λ parent. parent ++ offset_of position ∷ []) (same_text (parent_of position) path (sym both.0)), is_at_most (offset_of position) count both.1)
+    let both = and-both (same_position (parent_of position) path) (nat_le (offset_of position) count) h in (
+      path-joined position d ∙ ap (λ parent. parent ++ offset_of position ∷ []) (same_text (parent_of position) path (sym both.0)),
+      is_at_most (offset_of position) count both.1,
+    )
 
 -- whether the caret is in the content of the element at a path
 abbrev pub has_in_content : Option Caret → List ℕ → ℕ → Bool
 has_in_content None path count = false
 has_in_content (Some here) path count = is_in_content path count here.at
 
-nowhere : (there : Option Caret) (path : List ℕ) (count at : ℕ) → has_in_content there path count ≡ false → at ≤ count → has_caret there (path ++ at ∷ []) ≡ false
+nowhere : (there : Option Caret) (path : List ℕ) (count at : ℕ) → has_in_content there path count ≡ false → at ≤ count
+    → has_caret there (path ++ at ∷ []) ≡ false
 nowhere None path count at e h = refl
 nowhere (Some here) path count at e h =
     elim (same_position here.at (path ++ at ∷ [])) as (λ b. same_position here.at (path ++ at ∷ []) ≡ b → b ≡ false) [
       | true ↦ λ t.
-          let in_it : is_in_content path count here.at ≡ true = ap (is_in_content path count) (same_text here.at (path ++ at ∷ []) (sym t)) ∙ offset-in path count at h in
+          let in_it : is_in_content path count here.at ≡ true = ap (is_in_content path count) (same_text here.at (path ++ at ∷ []) (sym t))
+          ∙ offset-in path count at h in
           sym in_it ∙ e
       | false ↦ λ t. refl
     ] refl
@@ -248,17 +261,20 @@ nowhere (Some here) path count at e h =
 elsewhere : (position path : List ℕ) (at other : ℕ) → position ≡ path ++ at ∷ [] → other ≢ at → same_position position (path ++ other ∷ []) ≡ false
 elsewhere position path at other e d =
     elim (same_position position (path ++ other ∷ [])) as (λ b. same_position position (path ++ other ∷ []) ≡ b → b ≡ false) [
-      | true ↦ λ t. absurd (d (sym (offset_of-push path other) ∙ ap offset_of (sym (same_text position (path ++ other ∷ []) (sym t)) ∙ e) ∙ offset_of-push path at))
+      | true ↦ λ t. absurd (d (sym (offset_of-push path other) ∙ ap offset_of (sym (same_text position (path ++ other ∷ []) (sym t)) ∙ e)
+          ∙ offset_of-push path at))
       | false ↦ λ t. refl
     ] refl
 
 -- ---- whole rows
 
 -- without the caret in it
-pub whole-plain : (scene : Scene) (parent path : List ℕ) (list : List Item) → HaveShapes scene.conversion parent 0 (items_of list) → has_in_content scene.caret path (length list) ≡ false
+pub whole-plain : (scene : Scene) (parent path : List ℕ) (list : List Item) → HaveShapes scene.conversion parent 0 (items_of list)
+    → has_in_content scene.caret path (length list) ≡ false
     → with_row (row_of scene parent path list) nothing_written ≡ record { front = None; nodes = nest (row_of scene parent path list) }
 whole-plain scene parent path list s e =
-    written-plain (row_of scene parent path list) None [] (row-plain scene parent path 0 0 list s (λ at a b. nowhere scene.caret path (length list) at e (omega (arith, b))))
+    written-plain (row_of scene parent path list) None []
+    (row-plain scene parent path 0 0 list s (λ at a b. nowhere scene.caret path (length list) at e (omega (arith, b))))
 
 -- with the caret in it: what is written before it and behind it
 pub record Met (scene : Scene) (parent path : List ℕ) (list : List Item) (here : Caret) : Type 0 where
@@ -268,25 +284,31 @@ pub record Met (scene : Scene) (parent path : List ℕ) (list : List Item) (here
   pub nest_is : between left here.layers right ≡ nest (row_of scene parent path list)
   pub place_is : caret_at left here.layers right ≡ boundary_place scene parent path list (offset_of here.at)
 
-met-at : (scene : Scene) (parent path : List ℕ) (list : List Item) (here : Caret) (at : ℕ) → scene.caret ≡ Some here → same_position here.at (path ++ at ∷ []) ≡ true → offset_of here.at ≡ at
+met-at : (scene : Scene) (parent path : List ℕ) (list : List Item) (here : Caret) (at : ℕ) → scene.caret ≡ Some here
+    → same_position here.at (path ++ at ∷ []) ≡ true → offset_of here.at ≡ at
     → Parted scene parent path 0 0 list at → Met scene parent path list here
 met-at scene parent path list here at e t o p =
     let front = p.front in
     let behind = p.behind in
     let there = leaves_at scene (path ++ at ∷ []) in
     let left = front ++ there in
-    let here_is : boundary scene (path ++ at ∷ []) ≡ leaves_at scene (path ++ at ∷ []) ++ caret_in here.layers ∷ [] = boundary-around scene here (path ++ at ∷ []) e t in
+    let here_is : boundary scene (path ++ at ∷ []) ≡ leaves_at scene (path ++ at ∷ []) ++ caret_in here.layers ∷ [] =
+    boundary-around scene here (path ++ at ∷ []) e t in
     let row_is : row_of scene parent path list ≡ (p.front ++ leaves_at scene (path ++ at ∷ [])) ++ caret_in here.layers ∷ p.behind =
     p.row_is
     ∙ ap (λ row. p.front ++ (row ++ p.behind)) here_is
     ∙ ap (λ row. p.front ++ row) (append_assoc there (caret_in here.layers ∷ []) behind)
     ∙ sym (append_assoc front there (caret_in here.layers ∷ behind)) in
-    let left_plain : IsPlainRow (p.front ++ leaves_at scene (path ++ at ∷ [])) = plain-append front there p.front_plain (leaves_at-plain scene (path ++ at ∷ [])) in
+    let left_plain : IsPlainRow (p.front ++ leaves_at scene (path ++ at ∷ [])) = plain-append front there p.front_plain
+    (leaves_at-plain scene (path ++ at ∷ [])) in
     let has : has_caret scene.caret (path ++ at ∷ []) ≡ true = ap (λ c. has_caret c (path ++ at ∷ [])) e ∙ t in
     let start : entries_before scene path at ≡ 0 + length p.front = p.entries_are in
-    let size : length (boundary scene (path ++ at ∷ [])) ≡ length (leaves_at scene (path ++ at ∷ [])) + 1 = ap length here_is ∙ length-append there (caret_in here.layers ∷ []) in
-    let long : length (p.front ++ leaves_at scene (path ++ at ∷ [])) ≡ length p.front + length (leaves_at scene (path ++ at ∷ [])) = length-append front there in
-    let number : length (p.front ++ leaves_at scene (path ++ at ∷ [])) ≡ (entries_before scene path at + length (boundary scene (path ++ at ∷ []))) - 1 = omega (arith, start, size, long) in
+    let size : length (boundary scene (path ++ at ∷ [])) ≡ length (leaves_at scene (path ++ at ∷ [])) + 1 = ap length here_is
+    ∙ length-append there (caret_in here.layers ∷ []) in
+    let long : length (p.front ++ leaves_at scene (path ++ at ∷ [])) ≡ length p.front + length (leaves_at scene (path ++ at ∷ [])) =
+    length-append front there in
+    let number : length (p.front ++ leaves_at scene (path ++ at ∷ [])) ≡ (entries_before scene path at + length (boundary scene (path ++ at ∷ []))) -
+    1 = omega (arith, start, size, long) in
     record {
       left = nest (p.front ++ leaves_at scene (path ++ at ∷ []));
       right = nest p.behind;
@@ -295,11 +317,13 @@ met-at scene parent path list here at e t o p =
       place_is =
           place-around left here.layers behind left_plain p.behind_plain
           ∙ (λ i. in_pieces as_place (pieces_of (sym row_is i)) (number i) none_passed)
-          ∙ ap (λ b. place_of as_place (mark_at (row_of scene parent path list) (entries_before scene path at) (entries_before scene path at + length (boundary scene (path ++ at ∷ []))) b)) (sym has)
+          ∙ ap (λ b. place_of as_place (mark_at (row_of scene parent path list) (entries_before scene path at)
+          (entries_before scene path at + length (boundary scene (path ++ at ∷ []))) b)) (sym has)
           ∙ ap (boundary_place scene parent path list) (sym o);
     }
 
-pub whole-met : (scene : Scene) (parent path : List ℕ) (list : List Item) (here : Caret) → HaveShapes scene.conversion parent 0 (items_of list) → scene.caret ≡ Some here → here.at ≢ []
+pub whole-met : (scene : Scene) (parent path : List ℕ) (list : List Item) (here : Caret) → HaveShapes scene.conversion parent 0 (items_of list)
+    → scene.caret ≡ Some here → here.at ≢ []
     → is_in_content path (length list) here.at ≡ true → Met scene parent path list here
 whole-met scene parent path list here s e d t =
     let place = content-offset path (length list) here.at d t in
@@ -312,13 +336,15 @@ whole-met scene parent path list here s e d t =
 
 -- ---- what was found in the content
 
-pub found-out : (scene : Scene) (parent path : List ℕ) (list : List Item) (there : Option Caret) (found : Option CaretPlace) → has_in_content there path (length list) ≡ false
+pub found-out : (scene : Scene) (parent path : List ℕ) (list : List Item) (there : Option Caret) (found : Option CaretPlace)
+    → has_in_content there path (length list) ≡ false
     → found_here scene parent path list there found ≡ found
 found-out scene parent path list None found e = refl
 found-out scene parent path list (Some here) found e =
     ap (λ b. if b then Some (record { at = here.at; place = boundary_place scene parent path list (offset_of here.at) }) else found) e
 
-pub found-in : (scene : Scene) (parent path : List ℕ) (list : List Item) (there : Option Caret) (here : Caret) (found : Option CaretPlace) → there ≡ Some here → is_in_content path (length list) here.at ≡ true
+pub found-in : (scene : Scene) (parent path : List ℕ) (list : List Item) (there : Option Caret) (here : Caret) (found : Option CaretPlace)
+    → there ≡ Some here → is_in_content path (length list) here.at ≡ true
     → found_here scene parent path list there found ≡ Some (record { at = here.at; place = boundary_place scene parent path list (offset_of here.at) })
 found-in scene parent path list there here found k e =
     ap (λ c. found_here scene parent path list c found) k
@@ -382,7 +408,8 @@ finish-in scene parent path list here front nodes s e w =
 met-here : (scene : Scene) (parent path : List ℕ) (list : List Item) (here : Caret) (layers : List Layer) (front nodes : List ViewNode)
     → here.layers ≡ layers → with_row (row_of scene parent path list) nothing_written ≡ record { front = Some front; nodes = nodes }
     → Met scene parent path list here
-    → (between front layers nodes ≡ nest (row_of scene parent path list)) × (caret_at front layers nodes ≡ boundary_place scene parent path list (offset_of here.at))
+    → (between front layers nodes ≡ nest (row_of scene parent path list))
+    × (caret_at front layers nodes ≡ boundary_place scene parent path list (offset_of here.at))
 met-here scene parent path list here layers front nodes l w m =
     let some : Some front ≡ Some m.left = ap (λ (written : Written). written.front) (sym w ∙ m.written_is) in
     let before : front ≡ m.left = cc in
@@ -395,7 +422,8 @@ pub finish-some : (scene : Scene) (parent path : List ℕ) (list : List Item) (h
     → with_row (row_of scene parent path list) nothing_written ≡ record { front = Some front; nodes = nodes }
     → between front layers nodes ≡ nest (row_of scene parent path list)
 finish-some scene parent path list here layers front nodes s e d l w =
-    (met-here scene parent path list here layers front nodes l w (whole-met scene parent path list here s e d (finish-in scene parent path list here front nodes s e w))).0
+    (met-here scene parent path list here layers front nodes l w
+    (whole-met scene parent path list here s e d (finish-in scene parent path list here front nodes s e w))).0
 
 -- and it is found there
 finish-place : (scene : Scene) (parent path : List ℕ) (list : List Item) (here : Caret) (layers : List Layer) (front nodes : List ViewNode)
@@ -403,9 +431,11 @@ finish-place : (scene : Scene) (parent path : List ℕ) (list : List Item) (here
     → with_row (row_of scene parent path list) nothing_written ≡ record { front = Some front; nodes = nodes }
     → caret_at front layers nodes ≡ boundary_place scene parent path list (offset_of here.at)
 finish-place scene parent path list here layers front nodes s e d l w =
-    (met-here scene parent path list here layers front nodes l w (whole-met scene parent path list here s e d (finish-in scene parent path list here front nodes s e w))).1
+    (met-here scene parent path list here layers front nodes l w
+    (whole-met scene parent path list here s e d (finish-in scene parent path list here front nodes s e w))).1
 
-pub finish-found : (scene : Scene) (parent path : List ℕ) (list : List Item) (here : Caret) (layers : List Layer) (front nodes : List ViewNode) (found : Option CaretPlace)
+pub finish-found : (scene : Scene) (parent path : List ℕ) (list : List Item) (here : Caret) (layers : List Layer) (front nodes : List ViewNode)
+    (found : Option CaretPlace)
     → HaveShapes scene.conversion parent 0 (items_of list) → scene.caret ≡ Some here → here.at ≢ [] → here.layers ≡ layers
     → with_row (row_of scene parent path list) nothing_written ≡ record { front = Some front; nodes = nodes }
     → found_here scene parent path list scene.caret found ≡ Some (record { at = here.at; place = caret_at front layers nodes })

@@ -9,7 +9,8 @@ use Rattle.view_definitions.proofs.Layers.{same_layer-itself}
 use Rattle.down_whole.specs.Written.{Written, with_entry, in_layers, character_in, run_in}
 
 -- an entry alone
-pub alone : (layers : List Layer) (content : Content) (node : ViewNode) → content_before content [] ≡ node ∷ [] → shown (put layers content nothing) ≡ in_layers layers node
+pub alone : (layers : List Layer) (content : Content) (node : ViewNode) → content_before content [] ≡ node ∷ [] → shown (put layers content nothing)
+    ≡ in_layers layers node
 alone [] content node e = e
 alone (layer ∷ layers) content node e = ap (λ nodes. in_layer layer nodes ∷ []) (alone layers content node e)
 
@@ -17,18 +18,21 @@ pub plain-run : (layers : List Layer) (scalars : List ℕ) → IsPlainRow (map (
 plain-run layers [] = tt
 plain-run layers (scalar ∷ scalars) = (refl, plain-run layers scalars)
 
-map-append : (layers : List Layer) (scalars more : List ℕ) → map (character_in layers) (scalars ++ more) ≡ map (character_in layers) scalars ++ map (character_in layers) more
+map-append : (layers : List Layer) (scalars more : List ℕ) → map (character_in layers) (scalars ++ more)
+    ≡ map (character_in layers) scalars ++ map (character_in layers) more
 map-append layers [] more = refl
 map-append layers (scalar ∷ scalars) more = ap (λ row. character_in layers scalar ∷ row) (map-append layers scalars more)
 
 -- one character more
-pub run-more : (layers : List Layer) (nodes : List ViewNode) (scalars : List ℕ) (scalar : ℕ) → join nodes (run_in layers (scalars ++ scalar ∷ [])) ≡ join (join nodes (run_in layers scalars)) (nest (character_in layers scalar ∷ []))
+pub run-more : (layers : List Layer) (nodes : List ViewNode) (scalars : List ℕ) (scalar : ℕ) → join nodes (run_in layers (scalars ++ scalar ∷ []))
+    ≡ join (join nodes (run_in layers scalars)) (nest (character_in layers scalar ∷ []))
 run-more layers nodes scalars scalar =
     ap (λ row. join nodes (nest row)) (map-append layers scalars (scalar ∷ []))
     ∙ ap (join nodes) (nest-append (map (character_in layers) scalars) (character_in layers scalar ∷ []) (plain-run layers scalars) (refl, tt))
     ∙ join-assoc nodes (run_in layers scalars) (nest (character_in layers scalar ∷ []))
 
-texts_join : (layers : List Layer) (scalar : ℕ) (scalars : List ℕ) → join (in_layers layers (text (scalar ∷ []))) (in_layers layers (text scalars)) ≡ in_layers layers (text (scalar ∷ scalars))
+texts_join : (layers : List Layer) (scalar : ℕ) (scalars : List ℕ) → join (in_layers layers (text (scalar ∷ []))) (in_layers layers (text scalars))
+    ≡ in_layers layers (text (scalar ∷ scalars))
 texts_join [] scalar scalars = refl
 texts_join (layer ∷ layers) scalar scalars =
     join-in_layer layer layer (in_layers layers (text (scalar ∷ []))) (in_layers layers (text scalars)) [] (same_layer-itself layer)
@@ -45,27 +49,33 @@ run-is layers scalar (next ∷ scalars) =
 -- ---- the writer
 
 -- the characters were put into the nodes
-pub flushed : (front : Option (List ViewNode)) (layers : List Layer) (scalars taken rest : List ℕ) (old new right : List ViewNode) (node : ViewNode) → (scalars ≡ [] → ⊥) → taken ≡ scalars → rest ≡ [] → node ≡ text taken → right ≡ in_layers layers node → new ≡ join old right
+pub flushed : (front : Option (List ViewNode)) (layers : List Layer) (scalars taken rest : List ℕ) (old new right : List ViewNode) (node : ViewNode)
+    → (scalars ≡ [] → ⊥) → taken ≡ scalars → rest ≡ [] → node ≡ text taken → right ≡ in_layers layers node → new ≡ join old right
     → ◌≡◌ {A = Written} (record { front = front; nodes = join new (run_in layers rest) }) (record { front = front; nodes = join old (run_in layers scalars) })
 flushed front layers [] taken rest old new right node some t r n w e = absurd (some refl)
 flushed front layers (scalar ∷ scalars) taken rest old new right node some t r n w e =
     ap (λ nodes. record { front = front; nodes = nodes })
-    (ap (λ scalars. join new (run_in layers scalars)) r ∙ join-none new ∙ e ∙ ap (join old) (w ∙ ap (in_layers layers) (n ∙ ap text t) ∙ sym (run-is layers scalar scalars)))
+    (ap (λ scalars. join new (run_in layers scalars)) r ∙ join-none new ∙ e
+    ∙ ap (join old) (w ∙ ap (in_layers layers) (n ∙ ap text t) ∙ sym (run-is layers scalar scalars)))
 
 -- a character was written
-pub character_written : (front : Option (List ViewNode)) (layers : List Layer) (scalars next : List ℕ) (scalar : ℕ) (nodes : List ViewNode) → next ≡ scalars ++ scalar ∷ []
-    → ◌≡◌ {A = Written} (record { front = front; nodes = join nodes (run_in layers next) }) (with_entry (character_in layers scalar) (record { front = front; nodes = join nodes (run_in layers scalars) }))
+pub character_written : (front : Option (List ViewNode)) (layers : List Layer) (scalars next : List ℕ) (scalar : ℕ) (nodes : List ViewNode)
+    → next ≡ scalars ++ scalar ∷ []
+    → ◌≡◌ {A = Written} (record { front = front; nodes = join nodes (run_in layers next) })
+    (with_entry (character_in layers scalar) (record { front = front; nodes = join nodes (run_in layers scalars) }))
 character_written front layers scalars next scalar nodes e =
     ap (λ nodes. record { front = front; nodes = nodes }) (ap (λ scalars. join nodes (run_in layers scalars)) e ∙ run-more layers nodes scalars scalar)
 
 -- where no characters are left, the nodes are all that is written
-pub all_written : (front : Option (List ViewNode)) (layers : List Layer) (rest : List ℕ) (nodes : List ViewNode) (before : Written) → ◌≡◌ {A = Written} (record { front = front; nodes = join nodes (run_in layers rest) }) before → rest ≡ []
+pub all_written : (front : Option (List ViewNode)) (layers : List Layer) (rest : List ℕ) (nodes : List ViewNode) (before : Written)
+    → ◌≡◌ {A = Written} (record { front = front; nodes = join nodes (run_in layers rest) }) before → rest ≡ []
     → ◌≡◌ {A = Written} (record { front = front; nodes = nodes }) before
 all_written front layers rest nodes before e r =
     ap (λ nodes. record { front = front; nodes = nodes }) (sym (join-none nodes) ∙ ap (λ scalars. join nodes (run_in layers scalars)) (sym r)) ∙ e
 
 -- the caret was written
-pub caret_written : (front : Option (List ViewNode)) (layers : List Layer) (rest : List ℕ) (nodes taken left : List ViewNode) (before : Written) → ◌≡◌ {A = Written} (record { front = front; nodes = join nodes (run_in layers rest) }) before → rest ≡ [] → taken ≡ nodes → left ≡ []
+pub caret_written : (front : Option (List ViewNode)) (layers : List Layer) (rest : List ℕ) (nodes taken left : List ViewNode) (before : Written)
+    → ◌≡◌ {A = Written} (record { front = front; nodes = join nodes (run_in layers rest) }) before → rest ≡ [] → taken ≡ nodes → left ≡ []
     → ◌≡◌ {A = Written} (record { front = Some taken; nodes = join left (run_in layers rest) }) (record { front = Some before.nodes; nodes = [] })
 caret_written front layers rest nodes taken left before e r t l =
     λ i. record {
@@ -73,7 +83,9 @@ caret_written front layers rest nodes taken left before e r t l =
       nodes = join (l i) (run_in layers (r i));
     }
 
-joined : (front behind : Option (List ViewNode)) (own others layers : List Layer) (rest more : List ℕ) (node : ViewNode) (old new : List ViewNode) (before : Written) → ◌≡◌ {A = Written} (record { front = front; nodes = join old (run_in own rest) }) before → rest ≡ [] → behind ≡ front → more ≡ rest → new ≡ join old (in_layers layers node)
+joined : (front behind : Option (List ViewNode)) (own others layers : List Layer) (rest more : List ℕ) (node : ViewNode) (old new : List ViewNode)
+    (before : Written) → ◌≡◌ {A = Written} (record { front = front; nodes = join old (run_in own rest) }) before → rest ≡ [] → behind ≡ front
+    → more ≡ rest → new ≡ join old (in_layers layers node)
     → ◌≡◌ {A = Written} (record { front = behind; nodes = join new (run_in others more) }) (record before { nodes = join before.nodes (in_layers layers node) })
 joined front behind own others layers rest more node old new before e r f m n =
     let all = all_written front own rest old before e r in
@@ -83,13 +95,17 @@ joined front behind own others layers rest more node old new before e r f m n =
     }
 
 -- an element was written
-pub item_written : (front behind : Option (List ViewNode)) (own others layers : List Layer) (rest more : List ℕ) (node : ViewNode) (old new : List ViewNode) (before : Written) → ◌≡◌ {A = Written} (record { front = front; nodes = join old (run_in own rest) }) before → rest ≡ [] → behind ≡ front → more ≡ rest → new ≡ join old (in_layers layers node)
+pub item_written : (front behind : Option (List ViewNode)) (own others layers : List Layer) (rest more : List ℕ) (node : ViewNode)
+    (old new : List ViewNode) (before : Written) → ◌≡◌ {A = Written} (record { front = front; nodes = join old (run_in own rest) }) before → rest ≡ []
+    → behind ≡ front → more ≡ rest → new ≡ join old (in_layers layers node)
     → ◌≡◌ {A = Written} (record { front = behind; nodes = join new (run_in others more) }) (with_entry (record { content = item node; layers = layers }) before)
 item_written front behind own others layers rest more node old new before e r f m n =
     joined front behind own others layers rest more node old new before e r f m n
     ∙ ap (λ nodes. record before { nodes = join before.nodes nodes }) (sym (alone layers (item node) node refl))
 
 -- the leaf of a marker was written
-pub leaf_written : (front behind : Option (List ViewNode)) (own others : List Layer) (rest more : List ℕ) (node : ViewNode) (old new : List ViewNode) (before : Written) → ◌≡◌ {A = Written} (record { front = front; nodes = join old (run_in own rest) }) before → rest ≡ [] → behind ≡ front → more ≡ rest → new ≡ join old (in_layers [] node)
+pub leaf_written : (front behind : Option (List ViewNode)) (own others : List Layer) (rest more : List ℕ) (node : ViewNode) (old new : List ViewNode)
+    (before : Written) → ◌≡◌ {A = Written} (record { front = front; nodes = join old (run_in own rest) }) before → rest ≡ [] → behind ≡ front
+    → more ≡ rest → new ≡ join old (in_layers [] node)
     → ◌≡◌ {A = Written} (record { front = behind; nodes = join new (run_in others more) }) (with_entry (record { content = leaf node; layers = [] }) before)
 leaf_written front behind own others rest more node old new before e r f m n = joined front behind own others [] rest more node old new before e r f m n

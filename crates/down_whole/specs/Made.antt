@@ -19,7 +19,8 @@ abbrev pub run_row : Scene → List ℕ → ℕ → Attributes → List ℕ → 
 run_row scene path offset attributes [] = []
 run_row scene path offset attributes (scalar ∷ scalars) =
     boundary scene (path ++ offset ∷ [])
-    ++ (character_in (character_layers scene.conversion attributes (covering (path ++ offset ∷ []) scene.markers)) scalar ∷ run_row scene path (offset + 1) attributes scalars)
+    ++ (character_in (character_layers scene.conversion attributes (covering (path ++ offset ∷ []) scene.markers)) scalar
+    ∷ run_row scene path (offset + 1) attributes scalars)
 
 -- items of a parent, from an offset on, before which so many elements stand in it, where so many numbers were drawn
 pub record Stretch : Type 0 where

@@ -3,7 +3,8 @@ ghost use Rattle.std.specs.Prelude.{◌≡◌, ◌++◌, OnOk, IfOk, drop, is_so
 ghost use Rattle.view_definitions.specs.Row.{both_layers};
 ghost use Rattle.view_tree.specs.Changes.{inner_of};
 ghost use Rattle.downcast_definitions.specs.Place.{as_place};
-ghost use Rattle.down_whole.specs.Between.{is_in, opened_last, opened_first, without_last, last_text, first_text, text_of_both, with_texts_joined, between, end_of, caret_at};
+ghost use Rattle.down_whole.specs.Between.{is_in, opened_last, opened_first, without_last, last_text, first_text, text_of_both, with_texts_joined, between};
+ghost use Rattle.down_whole.specs.Between.{end_of, caret_at};
 
 use ck_base::NoMemory;
 use ck_base::text::ViewText;

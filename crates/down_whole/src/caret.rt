@@ -73,7 +73,8 @@ pub fn caret_of(
     list: &ConverterList,
     document: &Document,
 ) -> Result<Option<Caret>, NoMemory>
-    ensures { IfOk result (λ caret. caret_as caret ≡ caret_of (conversion_of (λ object. gives (object.vtable, object.value)) list.now) document.now.state.document) }
+    ensures { IfOk result (λ caret. caret_as caret ≡ caret_of (conversion_of (λ object. gives (object.vtable, object.value)) list.now)
+        document.now.state.document) }
 {
     let selection = document.selection();
     let range = selection.range();

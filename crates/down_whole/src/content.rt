@@ -1,5 +1,6 @@
 //! The content of an element: the nodes that its row nests to.
-ghost use Rattle.std.specs.Prelude.{◌≡◌, ◌≢◌, ◌+◌, ◌*◌, ◌-◌, ◌<◌, ◌≤◌, ◌^◌, ◌++◌, [], ◌∷◌, OnOk, IfOk, IfSome, Some, length, true, IsTrue, ◌↔◌, option_copied, option_map};
+ghost use Rattle.std.specs.Prelude.{◌≡◌, ◌≢◌, ◌+◌, ◌*◌, ◌-◌, ◌<◌, ◌≤◌, ◌^◌, ◌++◌, [], ◌∷◌, OnOk, IfOk, IfSome, Some, length, true, IsTrue, ◌↔◌, option_copied};
+ghost use Rattle.std.specs.Prelude.{option_map};
 ghost use Rattle.item_definitions.specs.Item.{count_of, depth_of, items_of};
 ghost use Rattle.item_definitions.specs.Children.{offset_of};
 ghost use Rattle.document_definitions.specs.Markers.{covering};
@@ -57,7 +58,8 @@ fn facts_of(
     before: u32,
     head: &Head,
 ) -> Result<Facts, NoMemory>
-    ensures { IfOk result (λ facts. facts ≡ facts_of (conversion_of (λ object. gives (object.vtable, object.value)) list.now) parent.now before head.now.name head.now.attributes) }
+    ensures { IfOk result (λ facts. facts ≡ facts_of (conversion_of (λ object. gives (object.vtable, object.value)) list.now) parent.now before
+        head.now.name head.now.attributes) }
 {
     let index = if list.is_indexed(head.name()) {
         Some(before)
@@ -103,7 +105,9 @@ fn element_layers(
 ) -> Result<Vec<Layer>, NoMemory>
     requires item { position.now ≢ [] }
     requires limit { offset_of position.now < 4294967295 }
-    ensures { IfOk result (λ layers. layers.items ≡ element_layers (scene_with (conversion_of (λ object. gives (object.vtable, object.value)) list.now) scene.now unnumbered) position.now name.now own.now) }
+    ensures { IfOk result (λ layers. layers.items
+        ≡ element_layers (scene_with (conversion_of (λ object. gives (object.vtable, object.value)) list.now) scene.now unnumbered) position.now
+        name.now own.now) }
 {
     if !list.is_object(name) {
         return Ok(Vec::new(scene.alloc));
@@ -154,9 +158,13 @@ fn push_scalar(
 ) -> Result<Option<Vec<Name>>, NoMemory>
     requires item { position ≢ [] }
     requires limit { offset_of position < 4294967295 }
-    requires layers { HasLayers (conversion_of (λ object. gives (object.vtable, object.value)) list.now) character.attrs.now (option_map (λ names. names.items) known) row.old.layers.items }
-    ensures written { OnOk result (written row.new ≡ with_entry (character_in (character_layers (conversion_of (λ object. gives (object.vtable, object.value)) list.now) character.entry.attrs.now (covering position scene.now.markers.now)) character.entry.scalar) (written row.old)) }
-    ensures layers { IfOk result (λ known. HasLayers (conversion_of (λ object. gives (object.vtable, object.value)) list.now) character.entry.attrs.now (option_map (λ names. names.items) known) row.new.layers.items) }
+    requires layers { HasLayers (conversion_of (λ object. gives (object.vtable, object.value)) list.now) character.attrs.now
+        (option_map (λ names. names.items) known) row.old.layers.items }
+    ensures written { OnOk result (written row.new
+        ≡ with_entry (character_in (character_layers (conversion_of (λ object. gives (object.vtable, object.value)) list.now) character.entry.attrs.now
+        (covering position scene.now.markers.now)) character.entry.scalar) (written row.old)) }
+    ensures layers { IfOk result (λ known. HasLayers (conversion_of (λ object. gives (object.vtable, object.value)) list.now) character.entry.attrs.now
+        (option_map (λ names. names.items) known) row.new.layers.items) }
 {
     let names = scene.markers.covering(&position)?;
     if !are_known(known.as_ref(), names.as_slice()) {
@@ -179,7 +187,9 @@ fn push_run(
     requires leaves { HasLeaves (conversion_of (λ object. gives (object.vtable, object.value)) list.now) scene.now }
     requires short { length path.now < 65 }
     requires few { offset + length text.now.scalars < 2 ^ 32 }
-    ensures { OnOk result ((numbers : Numbers) → written row.new ≡ with_row (run_row (scene_with (conversion_of (λ object. gives (object.vtable, object.value)) list.now) scene.now numbers) path.now offset text.now.attributes text.now.scalars) (written row.old)) }
+    ensures { OnOk result ((numbers : Numbers)
+        → written row.new ≡ with_row (run_row (scene_with (conversion_of (λ object. gives (object.vtable, object.value)) list.now) scene.now numbers)
+        path.now offset text.now.attributes text.now.scalars) (written row.old)) }
 {
     let mut known = None;
     let mut offset = offset;
@@ -199,7 +209,8 @@ fn push_run(
 /// The nodes of a row that is written. Where the caret is in it, the mapper learns where it is seen.
 fn finish(scene: &Scene<'_>, row: RowWriter, maker: &mut Maker) -> Result<Children, NoMemory>
     ensures nodes { IfOk result (λ nodes. nodes.nodes ≡ finished (scene_caret scene.now) (written row)) }
-    ensures mapper { OnOk result (maker.new.mapper ≡ record maker.old.mapper { caret = caret_found (scene_caret scene.now) (written row) maker.old.mapper.caret }) }
+    ensures mapper { OnOk result (maker.new.mapper
+        ≡ record maker.old.mapper { caret = caret_found (scene_caret scene.now) (written row) maker.old.mapper.caret }) }
     ensures drawn { maker.new.view ≡ maker.old.view }
 {
     let (front, nodes) = row.into_nodes()?;
@@ -231,7 +242,8 @@ fn converted_at<L: Ledger>(
     head: &Head,
     steps: &mut Steps<L>,
 ) -> Result<Converted, NoMemory>
-    ensures made { IfOk result (λ made. converted_view made ≡ shape_at (conversion_of (λ object. gives (object.vtable, object.value)) list.now) here.entry.parent.now here.entry.before head.now.name head.now.attributes) }
+    ensures made { IfOk result (λ made. converted_view made ≡ shape_at (conversion_of (λ object. gives (object.vtable, object.value)) list.now)
+        here.entry.parent.now here.entry.before head.now.name head.now.attributes) }
     ensures calls { steps.new ≤ steps.old + boxed_count (conversion_of (λ object. gives (object.vtable, object.value)) list.now).converters }
 {
     let facts = facts_of(list, here.parent, here.before, head)?;
@@ -266,10 +278,16 @@ fn push_element(
     requires numbers { maker.old.view.drawn < 2 ^ 64 - 1 }
     ensures row { OnOk result (written row.new ≡ with_entry (record {
       content = item (with_number (Some maker.old.view.drawn) (only (filled element.entry.content.nodes (converted_view element.entry.made).form)));
-      layers = element_layers (scene_with (conversion_of (λ object. gives (object.vtable, object.value)) list.now) scene.now unnumbered) position element.entry.head.now.name (converted_view element.entry.made).layers;
+      layers = element_layers (scene_with (conversion_of (λ object. gives (object.vtable, object.value)) list.now) scene.now unnumbered) position
+          element.entry.head.now.name (converted_view element.entry.made).layers;
     }) (written row.old)) }
     ensures drawn { OnOk result (maker.new.view.drawn ≡ maker.old.view.drawn + 1) }
-    ensures mapper { OnOk result (maker.new.mapper ≡ with_binding (record { id = element.entry.head.now.id; number = maker.old.view.drawn; slot = slot_of (converted_view element.entry.made).form }) maker.old.mapper) }
+    ensures mapper { OnOk result (maker.new.mapper
+        ≡ with_binding (record {
+          id = element.entry.head.now.id;
+          number = maker.old.view.drawn;
+          slot = slot_of (converted_view element.entry.made).form;
+        }) maker.old.mapper) }
     ensures shape { is_shape (converted_view element.entry.made).form ≡ true }
 {
     let MadeElement {
@@ -305,11 +323,14 @@ pub(crate) fn content<L: Ledger>(
     requires few { count_of items.now < 2 ^ 32 }
     requires numbers { maker.old.view.drawn + count_of items.now < 2 ^ 64 - 1 }
     requires placed { IfSome (scene_caret scene.now) (λ here. here.at ≢ []) }
-    ensures made { IfOk result (λ nodes. (numbers : Numbers) → MadeContent (scene_with (conversion_of (λ object. gives (object.vtable, object.value)) list.now) scene.now numbers)
+    ensures made { IfOk result (λ nodes. (numbers : Numbers)
+        → MadeContent (scene_with (conversion_of (λ object. gives (object.vtable, object.value)) list.now) scene.now numbers)
         parent.now.name.now parent.now.path.now maker.old.view.drawn items.now nodes.nodes maker.old.mapper maker.new.mapper) }
     ensures drawn { OnOk result (maker.new.view.drawn ≡ maker.old.view.drawn + elements_among (items_of items.now)) }
-    ensures shapes { OnOk result (HaveShapes (conversion_of (λ object. gives (object.vtable, object.value)) list.now) parent.now.name.now 0 (items_of items.now)) }
-    ensures calls { steps.new ≤ steps.old + boxed_count (conversion_of (λ object. gives (object.vtable, object.value)) list.now).converters * elements_among (items_of items.now) }
+    ensures shapes { OnOk result (HaveShapes (conversion_of (λ object. gives (object.vtable, object.value)) list.now) parent.now.name.now 0
+        (items_of items.now)) }
+    ensures calls { steps.new ≤ steps.old + boxed_count (conversion_of (λ object. gives (object.vtable, object.value)) list.now).converters *
+        elements_among (items_of items.now) }
 {
     let mut row = RowWriter::new(scene.alloc);
     let mut offset = 0;

@@ -98,7 +98,8 @@ fn fill_element(
     content: &mut Children,
 ) -> Result<Detached, NoMemory>
     requires { inner_slots (forms_of (shapes_of children.now)) ≤ 1 }
-    ensures node { IfOk result (λ node. node ≡ element (head_of kind name.now attrs.now) (nodes_of (filled_inner content.old.nodes (forms_of (shapes_of children.now))))) }
+    ensures node { IfOk result (λ node. node
+        ≡ element (head_of kind name.now attrs.now) (nodes_of (filled_inner content.old.nodes (forms_of (shapes_of children.now))))) }
     ensures left { OnOk result (content.new.nodes ≡ left_of (inner_slots (forms_of (shapes_of children.now))) content.old.nodes) }
 {
     let mut inner = Children::new(alloc);

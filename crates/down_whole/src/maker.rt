@@ -146,7 +146,8 @@ impl Maker {
         requires { self.old.view.drawn < 2 ^ 64 - 1 }
         ensures node { IfOk result (λ node. node ≡ with_number (Some self.old.view.drawn) (only (filled content.nodes shape.now))) }
         ensures drawn { OnOk result (self.new.view.drawn ≡ self.old.view.drawn + 1) }
-        ensures mapper { OnOk result (self.new.mapper ≡ with_binding (record { id = id; number = self.old.view.drawn; slot = slot_of shape.now }) self.old.mapper) }
+        ensures mapper { OnOk result (self.new.mapper ≡ with_binding (record { id = id; number = self.old.view.drawn; slot = slot_of shape.now })
+            self.old.mapper) }
     {
         let slot = slot_of(alloc, shape)?;
         let mut node = filled_shape(alloc, shape, content)?;

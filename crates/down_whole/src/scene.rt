@@ -127,7 +127,8 @@ impl<'a> Scene<'a> {
 
     /// Writes the caret, if it stands at a position.
     fn push_caret(&self, position: &Path, row: &mut RowWriter) -> Result<(), NoMemory>
-        ensures written { OnOk result (written row.new ≡ with_row (carets (option_map (λ here. caret_view here.now) self.now.caret) position.now) (written row.old)) }
+        ensures written { OnOk result (written row.new ≡ with_row (carets (option_map (λ here. caret_view here.now) self.now.caret) position.now)
+            (written row.old)) }
         ensures layers { OnOk result (row.new.layers ≡ row.old.layers) }
     {
         match self.caret {

@@ -64,12 +64,15 @@ fn made<L: Ledger>(
     caret: Option<&Caret>,
     steps: &mut Steps<L>,
 ) -> Result<(View, Mapper), NoMemory>
-    requires { option_map (λ here. caret_view here.now) caret ≡ caret_of (conversion_of (λ object. gives (object.vtable, object.value)) list.now) document.now.state.document }
-    ensures made { IfOk result (λ both. (numbers : Numbers) → MadeContent (numbered_scene numbers (conversion_of (λ object. gives (object.vtable, object.value)) list.now) document.now.state.document)
+    requires { option_map (λ here. caret_view here.now) caret ≡ caret_of (conversion_of (λ object. gives (object.vtable, object.value)) list.now)
+        document.now.state.document }
+    ensures made { IfOk result (λ both. (numbers : Numbers)
+        → MadeContent (numbered_scene numbers (conversion_of (λ object. gives (object.vtable, object.value)) list.now) document.now.state.document)
         (codes "$root") [] 0 document.now.state.document.items both.0.nodes (record { bindings = []; caret = None }) both.1) }
     ensures shapes { OnOk result (HasShapes (conversion_of (λ object. gives (object.vtable, object.value)) list.now) document.now.state.document) }
     ensures drawn { IfOk result (λ both. both.0.drawn ≡ elements_among (items_of document.now.state.document.items)) }
-    ensures calls { steps.new ≤ steps.old + boxed_count (conversion_of (λ object. gives (object.vtable, object.value)) list.now).converters * elements_among (items_of document.now.state.document.items) }
+    ensures calls { steps.new ≤ steps.old + boxed_count (conversion_of (λ object. gives (object.vtable, object.value)) list.now).converters *
+        elements_among (items_of document.now.state.document.items) }
 {
     let scene = Scene::new(alloc, list, document.markers(), caret)?;
     let mut maker = Maker {
@@ -98,13 +101,16 @@ pub fn downcast<L: Ledger>(
     document: &Document,
     steps: &mut Steps<L>,
 ) -> Result<(View, Mapper), NoMemory>
-    ensures view { IfOk result (λ both. content_of both.0.nodes ≡ downcast (conversion_of (λ object. gives (object.vtable, object.value)) list.now) document.now.state.document) }
-    ensures mapper { IfOk result (λ both. IsMapped (conversion_of (λ object. gives (object.vtable, object.value)) list.now) document.now.state.document both.1 both.0.nodes) }
+    ensures view { IfOk result (λ both. content_of both.0.nodes ≡ downcast (conversion_of (λ object. gives (object.vtable, object.value)) list.now)
+        document.now.state.document) }
+    ensures mapper { IfOk result (λ both. IsMapped (conversion_of (λ object. gives (object.vtable, object.value)) list.now) document.now.state.document
+        both.1 both.0.nodes) }
     ensures numbered { IfOk result (λ both. AreNumbered (numbers_of both.1) (ids_of document.now.state.document.items)) }
     ensures shapes { OnOk result (HasShapes (conversion_of (λ object. gives (object.vtable, object.value)) list.now) document.now.state.document) }
     ensures drawn { IfOk result (λ both. both.0.drawn ≡ length (ids_of document.now.state.document.items)) }
     ensures below { IfOk result (λ both. AreBelow both.0.drawn (numbers_of both.1)) }
-    ensures calls { steps.new ≤ steps.old + boxed_count (conversion_of (λ object. gives (object.vtable, object.value)) list.now).converters * length (ids_of document.now.state.document.items) }
+    ensures calls { steps.new ≤ steps.old + boxed_count (conversion_of (λ object. gives (object.vtable, object.value)) list.now).converters * length
+        (ids_of document.now.state.document.items) }
 {
     let _tree = document.tree();
     let caret = caret_of(alloc, list, document)?;

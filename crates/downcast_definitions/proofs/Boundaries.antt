@@ -1,5 +1,6 @@
 -- The place where a boundary of a row is seen means the number of items before it.
-use Rattle.std.proofs.Common.{◌≡◌, ℕ, ◌+◌, ◌-◌, ◌≤◌, zero, suc, List, [], ◌∷◌, ◌++◌, take, length, Bool, true, false, Option, Some, None, refl, sym, ap, ◌∙◌, append_assoc, append-nil, arith, length-append}
+use Rattle.std.proofs.Common.{◌≡◌, ℕ, ◌+◌, ◌-◌, ◌≤◌, zero, suc, List, [], ◌∷◌, ◌++◌, take, length, Bool, true, false, Option, Some, None, refl, sym, ap, ◌∙◌}
+use Rattle.std.proofs.Common.{append_assoc, append-nil, arith, length-append}
 use Rattle.std.proofs.lemmas.List.{length-map}
 use Rattle.std.specs.Prelude.{slice_get}
 use Rattle.view_definitions.specs.Node.{nodes_of}
@@ -12,13 +13,15 @@ use Rattle.downcast_definitions.proofs.Entries.{AllStand, items_in, contents_of,
 use Rattle.downcast_definitions.proofs.Marks.{mark-behind-nest, mark-before-nest, mark-between-nest}
 use Rattle.downcast_definitions.proofs.Means.{place-means}
 
-pub marked-get : (row : List Entry) (number : ℕ) (layers : List Layer) → number ≤ length row → slice_get (contents_of (marked row number layers).row) number ≡ Some caret
+pub marked-get : (row : List Entry) (number : ℕ) (layers : List Layer) → number ≤ length row
+    → slice_get (contents_of (marked row number layers).row) number ≡ Some caret
 marked-get [] zero layers h = refl
 marked-get [] (suc number) layers h = absurd (omega (arith, h))
 marked-get (entry ∷ row) zero layers h = refl
 marked-get (entry ∷ row) (suc number) layers h = marked-get row number layers (omega (arith, h))
 
-pub marked-take : (row : List Entry) (number : ℕ) (layers : List Layer) → number ≤ length row → take number (contents_of (marked row number layers).row) ≡ take number (contents_of row)
+pub marked-take : (row : List Entry) (number : ℕ) (layers : List Layer) → number ≤ length row → take number (contents_of (marked row number layers).row)
+    ≡ take number (contents_of row)
 marked-take [] zero layers h = refl
 marked-take [] (suc number) layers h = absurd (omega (arith, h))
 marked-take (entry ∷ row) zero layers h = refl
@@ -31,7 +34,8 @@ marked-stand (entry ∷ row) zero layers h = (refl, h)
 marked-stand (entry ∷ row) (suc number) layers h = (h.0, marked-stand row number layers h.1)
 
 -- the place of a mark that leaves the nodes as they are
-pub marked-means : (inners : Inners) (row : List Entry) (number : ℕ) (layers : List Layer) → AllStand (contents_of row) → number ≤ length row → nest (marked row number layers).row ≡ nest row
+pub marked-means : (inners : Inners) (row : List Entry) (number : ℕ) (layers : List Layer) → AllStand (contents_of row) → number ≤ length row
+    → nest (marked row number layers).row ≡ nest row
     → meant_in inners 0 (nodes_of (nest row)) (place_of as_place (marked row number layers)) ≡ Some (items_in (take number (contents_of row)) ∷ [])
 marked-means inners row number layers s h e =
     ap (λ nodes. meant_in inners 0 (nodes_of nodes) (place_of as_place (marked row number layers))) (sym e)
@@ -66,7 +70,8 @@ boundary-means inners row before here behind start end true s e a b z last =
     let long : length here ≡ length leaves + 1 = (ap length is ∙ length-append leaves (caret ∷ [])) in
     let all : contents_of row ≡ before ++ (leaves ++ (caret ∷ behind)) =
     (e ∙ ap (λ cs. before ++ (cs ++ behind)) is ∙ ap (λ cs. before ++ cs) (append_assoc leaves (caret ∷ []) behind)) in
-    let none_in : items_in leaves ≡ 0 = (let k : items_in here ≡ items_in leaves + 0 = (ap items_in is ∙ items-append leaves (caret ∷ [])) in omega (arith, k, z)) in
+    let none_in : items_in leaves ≡ 0 = (let k : items_in here ≡ items_in leaves + 0 = (ap items_in is ∙ items-append leaves (caret ∷ []))
+    in omega (arith, k, z)) in
     let place : end - 1 ≡ length before + length leaves = omega (arith, a, b, long) in
     place-means inners row (end - 1) s
     (ap (λ cs. slice_get cs (end - 1)) all ∙ get-rest before (leaves ++ (caret ∷ behind)) (length leaves) (end - 1) place
@@ -78,7 +83,8 @@ boundary-means inners row before here behind start end true s e a b z last =
     ∙ items-append before leaves ∙ (let k : items_in before + items_in leaves ≡ items_in before = omega (arith, none_in) in k))
 boundary-means inners row before here behind start end false s e a b z last =
     let size : length row ≡ length before + (length here + length behind) =
-    (sym (length-map row (λ (entry : Entry). entry.content)) ∙ ap length e ∙ length-append before (here ++ behind) ∙ ap (λ n. length before + n) (length-append here behind)) in
+    (sym (length-map row (λ (entry : Entry). entry.content)) ∙ ap length e ∙ length-append before (here ++ behind)
+    ∙ ap (λ n. length before + n) (length-append here behind)) in
     let at_start : items_in (take start (contents_of row)) ≡ items_in before =
     (ap (λ cs. items_in (take start cs)) e ∙ ap items_in (take-rest before (here ++ behind) 0 start (omega (arith, a)) ∙ append-nil before)) in
     let at_end : items_in (take end (contents_of row)) ≡ items_in before =

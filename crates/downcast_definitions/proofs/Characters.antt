@@ -1,5 +1,6 @@
 -- The text of a character among nodes.
-use Rattle.std.proofs.Common.{◌≡◌, ℕ, zero, suc, ◌+◌, ◌-◌, ◌<◌, ◌≤◌, List, [], ◌∷◌, ◌++◌, length, Bool, true, false, Option, Some, None, refl, sym, ap, ◌∙◌, subst, arith}
+use Rattle.std.proofs.Common.{◌≡◌, ℕ, zero, suc, ◌+◌, ◌-◌, ◌<◌, ◌≤◌, List, [], ◌∷◌, ◌++◌, length, Bool, true, false, Option, Some, None, refl, sym, ap, ◌∙◌}
+use Rattle.std.proofs.Common.{subst, arith}
 use Rattle.std.proofs.lemmas.Bool.{le-leb}
 use Rattle.std.specs.Prelude.{slice_get, nat_lt, option_map, if◌then◌else◌}
 use Rattle.view_definitions.specs.Node.{Kind, container, attribute, empty, ui, Head, ViewNode, ViewNodes, text, element, none, more, list_of, nodes_of}
@@ -7,14 +8,16 @@ use Rattle.item_definitions.specs.Item.{Item, items_of}
 use Rattle.item_definitions.specs.Item as items
 use Rattle.view_definitions.specs.Layer.{Layer, in_layer}
 use Rattle.view_definitions.specs.Place.{node_at}
-use Rattle.view_definitions.specs.Row.{Content, leaf, item, character, caret, Entry, Piece, Pieces, nothing, first, bare, wrapped, pieces_of, content_before, shown, nest}
+use Rattle.view_definitions.specs.Row.{Content, leaf, item, character, caret, Entry, Piece, Pieces, nothing, first, bare, wrapped, pieces_of, content_before}
+use Rattle.view_definitions.specs.Row.{shown, nest}
 use Rattle.downcast_definitions.specs.Meant.{length_by_kind, model_length, inner_length, Inners, by_kind, in_item, meant_in}
 use Rattle.downcast_definitions.specs.Scene.{Scene}
 use Rattle.downcast_definitions.specs.Rows.{entry_of, row_of}
 use Rattle.downcast_definitions.specs.Seen.{elements_before}
 use Rattle.downcast_definitions.specs.Shown.{HaveShapes}
 use Rattle.downcast_definitions.specs.Among.{by_around, place_in, place_among, item_in, item_among, is_character}
-use Rattle.downcast_definitions.proofs.Entries.{may_stand, AllStand, items_in, piece_contents, contents, contents_of, contents-row, stand-front, stand-rest, leaf-counts, item-counts, shown-counts}
+use Rattle.downcast_definitions.proofs.Entries.{may_stand, AllStand, items_in, piece_contents, contents, contents_of, contents-row, stand-front, stand-rest}
+use Rattle.downcast_definitions.proofs.Entries.{leaf-counts, item-counts, shown-counts}
 use Rattle.downcast_definitions.proofs.RowItems.{nth_item, nth-front, nth-rest, row-items, item-here}
 use Rattle.downcast_definitions.proofs.Items.{row-stands}
 use Rattle.downcast_definitions.proofs.Marked.{later_below}
@@ -55,12 +58,15 @@ get-within (one ∷ scalars) zero scalar e = omega arith
 get-within (one ∷ scalars) (suc index) scalar e = let h = get-within scalars index scalar e in omega (arith, h)
 
 -- in the first node
-here-is : (further : ℕ) (node : ViewNode) (nodes : ViewNodes) (number base : ℕ) → number < model_length node → place_among further (more node nodes) number base ≡ (base + 0) ∷ place_in further node number
+here-is : (further : ℕ) (node : ViewNode) (nodes : ViewNodes) (number base : ℕ) → number < model_length node
+    → place_among further (more node nodes) number base ≡ (base + 0) ∷ place_in further node number
 here-is further node nodes number base h =
-    ap (λ t. if t then base ∷ place_in further node number else place_among further nodes (number - model_length node) (base + 1)) (below number (model_length node) h)
+    ap (λ t. if t then base ∷ place_in further node number else place_among further nodes (number - model_length node) (base + 1))
+    (below number (model_length node) h)
     ∙ ap (λ n. n ∷ place_in further node number) (omega arith)
 
-text-placed : (scalars : List ℕ) (nodes : ViewNodes) (offset base number scalar : ℕ) → slice_get scalars number ≡ Some scalar → Placed (more (text scalars) nodes) offset base number scalar
+text-placed : (scalars : List ℕ) (nodes : ViewNodes) (offset base number scalar : ℕ) → slice_get scalars number ≡ Some scalar
+    → Placed (more (text scalars) nodes) offset base number scalar
 text-placed scalars nodes offset base number scalar e =
     let h = get-within scalars number scalar e in
     let z : number + 0 ≡ number = omega arith in
@@ -80,7 +86,8 @@ text-placed scalars nodes offset base number scalar e =
           (less, k, ap is_character (item-here (text scalars) nodes less b));
     }
 
-in-element : (head : Head) (children nodes : ViewNodes) (offset base number scalar : ℕ) (kind : Kind) → head.kind ≡ kind → number < length_by_kind kind (inner_length children)
+in-element : (head : Head) (children nodes : ViewNodes) (offset base number scalar : ℕ) (kind : Kind) → head.kind ≡ kind
+    → number < length_by_kind kind (inner_length children)
     → (scalar_among children number ≡ Some scalar → Placed children offset 0 number scalar) → by_around kind (scalar_among children number) None ≡ Some scalar
     → Placed (more (element head children) nodes) offset base number scalar
 in-element head children nodes offset base number scalar container k h ih e = cc
@@ -105,16 +112,23 @@ in-element head children nodes offset base number scalar (attribute priority id)
           ∙ ap (λ place. (base + 0) ∷ place) (p.behind ∙ ap (λ n. n ∷ (p.front ++ (p.index + 1) ∷ [])) z);
       there = p.there;
       is = p.is;
-      means = λ inners. ap (λ kind. by_kind kind (meant_in inners offset children (p.at ∷ (p.front ++ p.index ∷ []))) (in_item inners offset (p.at ∷ (p.front ++ p.index ∷ [])))) k ∙ p.means inners;
-      one = ap is_character (item-here (element head children) nodes number less) ∙ ap (λ kind. is_character (by_around kind (item_among children number) (Some (element head children)))) k ∙ p.one;
+      means = λ inners. ap (λ kind. by_kind kind (meant_in inners offset children (p.at ∷ (p.front ++ p.index ∷ [])))
+          (in_item inners offset (p.at ∷ (p.front ++ p.index ∷ [])))) k ∙ p.means inners;
+      one = ap is_character (item-here (element head children) nodes number less)
+          ∙ ap (λ kind. is_character (by_around kind (item_among children number) (Some (element head children)))) k ∙ p.one;
       earlier = λ few f.
           let before = p.earlier few f in
           let m : number ≡ suc before.0 = before.1 in
-          let b : before.0 < length_by_kind head.kind (inner_length children) = omega (arith, less, m) in
-          (before.0, before.1, ap is_character (item-here (element head children) nodes before.0 b) ∙ ap (λ kind. is_character (by_around kind (item_among children before.0) (Some (element head children)))) k ∙ before.2);
+          let b : before.0 < length_by_kind head.kind (inner_length children) = omega (arith, less, m) in (
+            before.0,
+            before.1,
+            ap is_character (item-here (element head children) nodes before.0 b)
+                ∙ ap (λ kind. is_character (by_around kind (item_among children before.0) (Some (element head children)))) k ∙ before.2,
+          );
     }
 
-later-placed : (node : ViewNode) (nodes : ViewNodes) (offset base number scalar : ℕ) → model_length node ≤ number → Placed nodes (offset + model_length node) (base + 1) (number - model_length node) scalar
+later-placed : (node : ViewNode) (nodes : ViewNodes) (offset base number scalar : ℕ) → model_length node ≤ number
+    → Placed nodes (offset + model_length node) (base + 1) (number - model_length node) scalar
     → Placed (more node nodes) offset base number scalar
 later-placed node nodes offset base number scalar h p =
     let past = above number (model_length node) h in
@@ -139,16 +153,19 @@ later-placed node nodes offset base number scalar h p =
           let before = p.earlier few f in
           let m : number - model_length node ≡ suc before.0 = before.1 in
           let next : number ≡ suc (model_length node + before.0) = omega (arith, h, m) in
-          let far_past : nat_lt (model_length node + before.0) (model_length node) ≡ false = above (model_length node + before.0) (model_length node) (omega arith) in
+          let far_past : nat_lt (model_length node + before.0) (model_length node)
+          ≡ false = above (model_length node + before.0) (model_length node) (omega arith) in
           let back : model_length node + before.0 - model_length node ≡ before.0 = omega arith in (
             model_length node + before.0,
             next,
-            ap (λ t. is_character (if t then item_in node (model_length node + before.0) else item_among nodes (model_length node + before.0 - model_length node))) far_past
+            ap (λ t. is_character (if t then item_in node (model_length node + before.0)
+                else item_among nodes (model_length node + before.0 - model_length node))) far_past
                 ∙ ap (λ n. is_character (item_among nodes n)) back ∙ before.2,
           );
     }
   where
-    later-means : (inners : Inners) (front : List ℕ) → meant_in inners offset (more node nodes) (suc p.at ∷ (front ++ p.index ∷ [])) ≡ meant_in inners (offset + model_length node) nodes (p.at ∷ (front ++ p.index ∷ []))
+    later-means : (inners : Inners) (front : List ℕ) → meant_in inners offset (more node nodes) (suc p.at ∷ (front ++ p.index ∷ []))
+        ≡ meant_in inners (offset + model_length node) nodes (p.at ∷ (front ++ p.index ∷ []))
     later-means inners [] = refl
     later-means inners (next ∷ front) = refl
 
@@ -158,10 +175,12 @@ by-test : (node : ViewNode) (nodes : ViewNodes) (offset base number scalar : ℕ
     → (scalar_among nodes (number - model_length node) ≡ Some scalar → Placed nodes (offset + model_length node) (base + 1) (number - model_length node) scalar)
     → Placed (more node nodes) offset base number scalar
 by-test node nodes offset base number scalar true t e here later = here (is_below number (model_length node) t) e
-by-test node nodes offset base number scalar false t e here later = later-placed node nodes offset base number scalar (not_below number (model_length node) t) (later e)
+by-test node nodes offset base number scalar false t e here later = later-placed node nodes offset base number scalar
+    (not_below number (model_length node) t) (later e)
 
 mutual
-  node-placed : (node : ViewNode) (nodes : ViewNodes) (offset base number scalar : ℕ) → number < model_length node → scalar_in node number ≡ Some scalar → Placed (more node nodes) offset base number scalar
+  node-placed : (node : ViewNode) (nodes : ViewNodes) (offset base number scalar : ℕ) → number < model_length node → scalar_in node number ≡ Some scalar
+      → Placed (more node nodes) offset base number scalar
   node-placed (text scalars) nodes offset base number scalar h e = text-placed scalars nodes offset base number scalar e
   node-placed (element head children) nodes offset base number scalar h e =
       in-element head children nodes offset base number scalar head.kind refl h (λ f. placed children offset 0 number scalar f) e
@@ -176,7 +195,8 @@ mutual
 
 -- ---- the scalar values of a row's characters
 
-scalar-past : (node : ViewNode) (nodes : ViewNodes) (number rest : ℕ) → number ≡ model_length node + rest → scalar_among (more node nodes) number ≡ scalar_among nodes rest
+scalar-past : (node : ViewNode) (nodes : ViewNodes) (number rest : ℕ) → number ≡ model_length node + rest → scalar_among (more node nodes) number
+    ≡ scalar_among nodes rest
 scalar-past node nodes number rest e =
     let less : number - model_length node ≡ rest = omega (arith, e) in
     ap (λ t. if t then scalar_in node number else scalar_among nodes (number - model_length node)) (above number (model_length node) (omega (arith, e)))
@@ -186,7 +206,8 @@ scalar-here : (node : ViewNode) (nodes : ViewNodes) (number : ℕ) → number < 
 scalar-here node nodes number h =
     ap (λ t. if t then scalar_in node number else scalar_among nodes (number - model_length node)) (below number (model_length node) h)
 
-scalar-grows : (scalar : ℕ) (scalars : List ℕ) (nodes : ViewNodes) (number : ℕ) → scalar_among (more (text (scalar ∷ scalars)) nodes) (suc number) ≡ scalar_among (more (text scalars) nodes) number
+scalar-grows : (scalar : ℕ) (scalars : List ℕ) (nodes : ViewNodes) (number : ℕ) → scalar_among (more (text (scalar ∷ scalars)) nodes) (suc number)
+    ≡ scalar_among (more (text scalars) nodes) number
 scalar-grows scalar scalars nodes number =
     let less : suc number - suc (length scalars) ≡ number - length scalars = omega arith in
     λ i. if later_below number (length scalars) i then slice_get scalars number else scalar_among nodes (less i)
@@ -198,7 +219,8 @@ own-scalar own scalar e = cc
 abbrev AreScalars : List Content → List ViewNode → Type 0
 AreScalars all nodes = (number scalar : ℕ) → nth_item all number ≡ Some (character scalar) → scalar_among (nodes_of nodes) number ≡ Some scalar
 
-content-scalar : (content : Content) (rest : List Content) (nodes : List ViewNode) → may_stand content ≡ true → AreScalars rest nodes → AreScalars (content ∷ rest) (content_before content nodes)
+content-scalar : (content : Content) (rest : List Content) (nodes : List ViewNode) → may_stand content ≡ true → AreScalars rest nodes
+    → AreScalars (content ∷ rest) (content_before content nodes)
 content-scalar (leaf node) rest nodes s h number scalar e =
     let counts = leaf-counts node s in
     scalar-past node (nodes_of nodes) number number (omega (arith, counts)) ∙ h number scalar e
@@ -207,7 +229,8 @@ content-scalar (item node) rest nodes s h (suc number) scalar e =
     let counts = item-counts node s in
     scalar-past node (nodes_of nodes) (suc number) number (omega (arith, counts)) ∙ h number scalar e
 content-scalar (character own) rest [] s h zero scalar e = scalar-here (text (own ∷ [])) none 0 (omega arith) ∙ own-scalar own scalar e
-content-scalar (character own) rest (text scalars ∷ nodes) s h zero scalar e = scalar-here (text (own ∷ scalars)) (nodes_of nodes) 0 (omega arith) ∙ own-scalar own scalar e
+content-scalar (character own) rest (text scalars ∷ nodes) s h zero scalar e = scalar-here (text (own ∷ scalars)) (nodes_of nodes) 0 (omega arith)
+    ∙ own-scalar own scalar e
 content-scalar (character own) rest (element head children ∷ nodes) s h zero scalar e =
     scalar-here (text (own ∷ [])) (more (element head children) (nodes_of nodes)) 0 (omega arith) ∙ own-scalar own scalar e
 content-scalar (character own) rest [] s h (suc number) scalar e = scalar-past (text (own ∷ [])) none (suc number) number (omega arith) ∙ h number scalar e
@@ -216,14 +239,16 @@ content-scalar (character own) rest (element head children ∷ nodes) s h (suc n
     scalar-past (text (own ∷ [])) (more (element head children) (nodes_of nodes)) (suc number) number (omega arith) ∙ h number scalar e
 content-scalar caret rest nodes s h number scalar e = h number scalar e
 
-within-scalar : (layer : Layer) (inner pieces : Pieces) → AllStand (contents inner ++ contents pieces) → AreScalars (contents inner) (shown inner) → AreScalars (contents pieces) (shown pieces)
+within-scalar : (layer : Layer) (inner pieces : Pieces) → AllStand (contents inner ++ contents pieces) → AreScalars (contents inner) (shown inner)
+    → AreScalars (contents pieces) (shown pieces)
     → AreScalars (contents inner ++ contents pieces) (in_layer layer (shown inner) ∷ shown pieces)
 within-scalar layer inner pieces s h k number scalar e = go (nat_lt number (items_in (contents inner))) refl
   where
     counts : inner_length (nodes_of (shown inner)) ≡ items_in (contents inner)
     counts = shown-counts inner (stand-front (contents inner) (contents pieces) s)
 
-    go : (b : Bool) → nat_lt number (items_in (contents inner)) ≡ b → scalar_among (more (in_layer layer (shown inner)) (nodes_of (shown pieces))) number ≡ Some scalar
+    go : (b : Bool) → nat_lt number (items_in (contents inner)) ≡ b
+        → scalar_among (more (in_layer layer (shown inner)) (nodes_of (shown pieces))) number ≡ Some scalar
     go true t =
         let less : number < items_in (contents inner) = is_below number (items_in (contents inner)) t in
         let same : inner_length (nodes_of (shown inner)) ≡ items_in (contents inner) = counts in
@@ -233,10 +258,12 @@ within-scalar layer inner pieces s h k number scalar e = go (nat_lt number (item
         let past : items_in (contents inner) ≤ number = not_below number (items_in (contents inner)) t in
         let same : inner_length (nodes_of (shown inner)) ≡ items_in (contents inner) = counts in
         scalar-past (in_layer layer (shown inner)) (nodes_of (shown pieces)) number (number - items_in (contents inner)) (omega (arith, past, same))
-        ∙ k (number - items_in (contents inner)) scalar (sym (nth-rest (contents inner) (contents pieces) (number - items_in (contents inner)) number (omega (arith, past))) ∙ e)
+        ∙ k (number - items_in (contents inner)) scalar
+        (sym (nth-rest (contents inner) (contents pieces) (number - items_in (contents inner)) number (omega (arith, past))) ∙ e)
 
 mutual
-  scalars-of-piece : (piece : Piece) (pieces : Pieces) → AllStand (contents (first piece pieces)) → AreScalars (contents pieces) (shown pieces) → AreScalars (contents (first piece pieces)) (shown (first piece pieces))
+  scalars-of-piece : (piece : Piece) (pieces : Pieces) → AllStand (contents (first piece pieces)) → AreScalars (contents pieces) (shown pieces)
+      → AreScalars (contents (first piece pieces)) (shown (first piece pieces))
   scalars-of-piece (bare content) pieces s rest = content-scalar content (contents pieces) (shown pieces) s.0 rest
   scalars-of-piece (wrapped layer inner) pieces s rest =
       within-scalar layer inner pieces s (scalars-of-pieces inner (stand-front (contents inner) (contents pieces) s)) rest
@@ -251,7 +278,8 @@ scalars-of-row row s =
     subst (λ all. AreScalars all (nest row)) (contents-row row) (scalars-of-pieces (pieces_of row) (subst AllStand (sym (contents-row row)) s))
 
 -- a character of a parent's items is found among the nodes of its content
-pub scalar-there : (scene : Scene) (parent path : List ℕ) (list : List Item) (index scalar : ℕ) (attributes : items.Attributes) → HaveShapes scene.conversion parent 0 (items_of list)
+pub scalar-there : (scene : Scene) (parent path : List ℕ) (list : List Item) (index scalar : ℕ) (attributes : items.Attributes)
+    → HaveShapes scene.conversion parent 0 (items_of list)
     → slice_get list index ≡ Some (items.character scalar attributes) → scalar_among (nodes_of (nest (row_of scene parent path list))) index ≡ Some scalar
 scalar-there scene parent path list index scalar attributes s e =
     scalars-of-row (row_of scene parent path list) (row-stands scene parent path 0 0 (items_of list) s) index scalar

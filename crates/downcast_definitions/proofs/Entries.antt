@@ -1,10 +1,12 @@
 -- The entries of a row and those of the pieces that it makes are the same, in one order.
-use Rattle.std.proofs.Common.{◌≡◌, ℕ, ◌+◌, ◌<◌, zero, suc, List, [], ◌∷◌, ◌++◌, map, take, length, Bool, true, false, if◌then◌else◌, refl, sym, ap, ◌∙◌, arith, length-append}
+use Rattle.std.proofs.Common.{◌≡◌, ℕ, ◌+◌, ◌<◌, zero, suc, List, [], ◌∷◌, ◌++◌, map, take, length, Bool, true, false, if◌then◌else◌, refl, sym, ap, ◌∙◌, arith}
+use Rattle.std.proofs.Common.{length-append}
 use Rattle.std.proofs.Math.Seq.{take-append-add}
 use Rattle.std.specs.Prelude.{slice_get}
 use Rattle.view_definitions.specs.Node.{Kind, container, attribute, empty, ui, ViewNode, text, element, nodes_of}
 use Rattle.view_definitions.specs.Layer.{Layer, same_layer}
-use Rattle.view_definitions.specs.Row.{Content, leaf, item, character, caret, Entry, Piece, Pieces, nothing, first, bare, wrapped, put, pieces_of, character_before, content_before, shown, is_leaf_kind, is_item_kind, is_element}
+use Rattle.view_definitions.specs.Row.{Content, leaf, item, character, caret, Entry, Piece, Pieces, nothing, first, bare, wrapped, put, pieces_of}
+use Rattle.view_definitions.specs.Row.{character_before, content_before, shown, is_leaf_kind, is_item_kind, is_element}
 use Rattle.downcast_definitions.specs.Place.{piece_size, pieces_size}
 use Rattle.downcast_definitions.specs.Meant.{length_by_kind, model_length, inner_length}
 use Rattle.downcast_definitions.proofs.Marks.{within_layer, behind_layer, put-cons}
@@ -59,7 +61,8 @@ contents-layer : (layer : Layer) (pieces : Pieces) → contents (within_layer la
 contents-layer layer nothing = refl
 contents-layer layer (first (bare content) pieces) = refl
 contents-layer layer (first (wrapped other inner) pieces) =
-    elim (same_layer layer other) as (λ b. contents (if b then inner else nothing) ++ contents (if b then pieces else first (wrapped other inner) pieces) ≡ contents inner ++ contents pieces) [
+    elim (same_layer layer other) as (λ b. contents (if b then inner else nothing)
+    ++ contents (if b then pieces else first (wrapped other inner) pieces) ≡ contents inner ++ contents pieces) [
       | true ↦ refl
       | false ↦ refl
     ]
@@ -134,7 +137,8 @@ character-counts scalar [] = refl
 character-counts scalar (text scalars ∷ nodes) = omega arith
 character-counts scalar (element head children ∷ nodes) = refl
 
-content-counts : (content : Content) (nodes : List ViewNode) → may_stand content ≡ true → inner_length (nodes_of (content_before content nodes)) ≡ counted content + inner_length (nodes_of nodes)
+content-counts : (content : Content) (nodes : List ViewNode) → may_stand content ≡ true → inner_length (nodes_of (content_before content nodes))
+    ≡ counted content + inner_length (nodes_of nodes)
 content-counts (leaf node) nodes e = ap (λ n. n + inner_length (nodes_of nodes)) (leaf-counts node e)
 content-counts (item node) nodes e = ap (λ n. n + inner_length (nodes_of nodes)) (item-counts node e)
 content-counts (character scalar) nodes e = character-counts scalar nodes

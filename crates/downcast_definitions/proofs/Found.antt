@@ -1,5 +1,6 @@
 -- Where a boundary of a document's row is seen, where the caret doesn't stand there.
-use Rattle.std.proofs.Common.{◌≡◌, ℕ, zero, suc, ◌+◌, ◌<◌, ◌≤◌, List, [], ◌∷◌, ◌++◌, take, length, Bool, true, false, Option, Some, None, refl, sym, ap, ◌∙◌, subst, append-nil, arith, length-append}
+use Rattle.std.proofs.Common.{◌≡◌, ℕ, zero, suc, ◌+◌, ◌<◌, ◌≤◌, List, [], ◌∷◌, ◌++◌, take, length, Bool, true, false, Option, Some, None, refl, sym, ap, ◌∙◌}
+use Rattle.std.proofs.Common.{subst, append-nil, arith, length-append}
 use Rattle.std.proofs.lemmas.Option.{slice_get_past}
 use Rattle.std.specs.Prelude.{slice_get, option_map, option_and_then, if◌then◌else◌}
 use Rattle.std.specs.List.{filter_map, cons_option}
@@ -17,7 +18,8 @@ use Rattle.converter_definitions.specs.Layers.{leaf_of}
 use Rattle.downcast_definitions.specs.Scene.{Scene, Caret, leaves, leaf_entry, ends_at, starts_at, has_caret, carets, caret_entry, boundary}
 use Rattle.downcast_definitions.specs.Rows.{elements_in, shape_at, element_node, entry_of, inner_row, row_of}
 use Rattle.downcast_definitions.specs.Place.{as_place}
-use Rattle.downcast_definitions.specs.Seen.{entries_before, of_character, character_before, character_layers_at, between, mark_at, place_of, elements_before, boundary_place}
+use Rattle.downcast_definitions.specs.Seen.{entries_before, of_character, character_before, character_layers_at, between, mark_at, place_of, elements_before}
+use Rattle.downcast_definitions.specs.Seen.{boundary_place}
 use Rattle.downcast_definitions.specs.Shown.{HasShape, HaveShapes}
 use Rattle.downcast_definitions.proofs.Entries.{AllStand, items_in, contents_of, items-append, get-front, get-rest, take-rest}
 use Rattle.downcast_definitions.proofs.Items.{contents-append, Around, around, boundary-quiet, entry-stands, row-stands, shape-at, contents-length}
@@ -97,7 +99,8 @@ boundary-bare scene position e =
     (leaves-bare scene.conversion.converters (starts_at position) scene.markers) (carets-bare scene.caret position e))
 
 -- behind it as before it
-bare-behind : (row front here behind : List Entry) (start end : ℕ) → row ≡ front ++ (here ++ behind) → start ≡ length front → end ≡ start + length here → AllBare here → BareBefore row start → BareBefore row end
+bare-behind : (row front here behind : List Entry) (start end : ℕ) → row ≡ front ++ (here ++ behind) → start ≡ length front → end ≡ start + length here
+    → AllBare here → BareBefore row start → BareBefore row end
 bare-behind row front [] behind start end e a b all before =
     let same : start ≡ end = omega (arith, b) in
     subst (BareBefore row) same before
@@ -117,16 +120,20 @@ past-end (x ∷ xs) zero e = cc
 past-end (x ∷ xs) (suc number) e = let below = past-end xs number e in omega (arith, below)
 
 row-length : (scene : Scene) (parent path : List ℕ) (list : List Item) (from before last : ℕ) → last ≡ from + length list
-    → length (inner_row scene parent path from before (items_of list)) + entries_before scene path from ≡ entries_before scene path last + length (boundary scene (path ++ last ∷ []))
+    → length (inner_row scene parent path from before (items_of list)) + entries_before scene path from
+    ≡ entries_before scene path last + length (boundary scene (path ++ last ∷ []))
 row-length scene parent path [] from before last e =
     let same : from ≡ last = omega (arith, e) in
-    let turned : length (boundary scene (path ++ from ∷ [])) + entries_before scene path from ≡ entries_before scene path from + length (boundary scene (path ++ from ∷ [])) = omega arith in
+    let turned : length (boundary scene (path ++ from ∷ [])) + entries_before scene path from
+    ≡ entries_before scene path from + length (boundary scene (path ++ from ∷ [])) = omega arith in
     turned ∙ ap (λ n. entries_before scene path n + length (boundary scene (path ++ n ∷ []))) same
 row-length scene parent path (next ∷ list) from before last e =
     let row = inner_row scene parent path (from + 1) (before + elements_in next) (items_of list) in
     let entry = entry_of scene parent (path ++ from ∷ []) before next in
-    let long : length (boundary scene (path ++ from ∷ []) ++ (entry ∷ row)) ≡ length (boundary scene (path ++ from ∷ [])) + suc (length row) = length-append (boundary scene (path ++ from ∷ [])) (entry ∷ row) in
-    let more : entries_before scene path (from + 1) ≡ entries_before scene path from + length (boundary scene (path ++ from ∷ [])) + 1 = ap (entries_before scene path) (let k : from + 1 ≡ suc from = omega arith in k) in
+    let long : length (boundary scene (path ++ from ∷ []) ++ (entry ∷ row)) ≡ length (boundary scene (path ++ from ∷ [])) + suc (length row) =
+    length-append (boundary scene (path ++ from ∷ [])) (entry ∷ row) in
+    let more : entries_before scene path (from + 1) ≡ entries_before scene path from + length (boundary scene (path ++ from ∷ [])) + 1 =
+    ap (entries_before scene path) (let k : from + 1 ≡ suc from = omega arith in k) in
     let rest = row-length scene parent path list (from + 1) (before + elements_in next) last (omega (arith, e)) in
     omega (arith, long, more, rest)
 
@@ -172,44 +179,54 @@ module _ (scene : Scene) (parent path : List ℕ) (list : List Item) where
       ∙ get-rest (here index) a.behind 0 (length (here index)) (omega arith)
       ∙ next-entry index a of h e
 
-  no-layers : (index : ℕ) (of : Option Item) → index ≤ length list → slice_get list index ≡ of → character_layers_at row (end_of index) ≡ None → IsNoCharacter of
+  no-layers : (index : ℕ) (of : Option Item) → index ≤ length list → slice_get list index ≡ of → character_layers_at row (end_of index) ≡ None
+      → IsNoCharacter of
   no-layers index None h e n = tt
   no-layers index (Some (items.character scalar attributes)) h e n =
       let there : Some (entry_of scene parent (path ++ index ∷ []) (elements_before list index) (items.character scalar attributes)).layers ≡ None =
-      (sym (ap (λ (entry : Option Entry). option_and_then (λ (entry : Entry). of_character entry.content entry.layers) entry) (entry-there index (Some (items.character scalar attributes)) h e)) ∙ n) in
+      (sym (ap (λ (entry : Option Entry). option_and_then (λ (entry : Entry). of_character entry.content entry.layers) entry)
+      (entry-there index (Some (items.character scalar attributes)) h e)) ∙ n) in
       cc
   no-layers index (Some (items.element id name attributes children)) h e n = tt
 
   -- no character is found there
-  pub no-character : (index : ℕ) (of : Option Item) → HaveShapes scene.conversion parent 0 (items_of list) → slice_get list index ≡ of → IsNoCharacter of → is_character (item_among (nodes_of (nest row)) index) ≡ false
+  pub no-character : (index : ℕ) (of : Option Item) → HaveShapes scene.conversion parent 0 (items_of list) → slice_get list index ≡ of
+      → IsNoCharacter of → is_character (item_among (nodes_of (nest row)) index) ≡ false
   no-character index None s e n = ap is_character (item-none scene parent path list index s e)
   no-character index (Some (items.character scalar attributes)) s e n = absurd n
   no-character index (Some (items.element id name attributes children)) s e n =
       let z : 0 + elements_before list index ≡ elements_before list index = omega arith in
       ap is_character (item-element scene parent path list index id name attributes children s e)
-      ∙ not-text (element_node (scene.numbers id) (shape_at scene.conversion parent (elements_before list index) name attributes) (inner_row scene name (path ++ index ∷ []) 0 0 children))
+      ∙ not-text (element_node (scene.numbers id) (shape_at scene.conversion parent (elements_before list index) name attributes)
+      (inner_row scene name (path ++ index ∷ []) 0 0 children))
       (entry-stands scene parent (path ++ index ∷ []) (elements_before list index) (items.element id name attributes children)
-      (subst (λ n. HasShape scene.conversion parent n (items.element id name attributes children)) z (shape-at scene.conversion parent list 0 index (items.element id name attributes children) s e)))
+      (subst (λ n. HasShape scene.conversion parent n (items.element id name attributes children)) z
+      (shape-at scene.conversion parent list 0 index (items.element id name attributes children) s e)))
     where
       not-text : (node : ViewNode) → is_element is_item_kind node ≡ true → is_character (Some node) ≡ false
       not-text (text scalars) e = cc
       not-text (element head children) e = refl
 
-  next-element : (index : ℕ) (of : Option Item) → index ≤ length list → slice_get list index ≡ of → IsNoCharacter of → NextElement (slice_get row (end_of index))
+  next-element : (index : ℕ) (of : Option Item) → index ≤ length list → slice_get list index ≡ of → IsNoCharacter of
+      → NextElement (slice_get row (end_of index))
   next-element index None h e n = subst NextElement (sym (entry-there index None h e)) tt
   next-element index (Some (items.character scalar attributes)) h e n = absurd n
-  next-element index (Some (items.element id name attributes children)) h e n = subst NextElement (sym (entry-there index (Some (items.element id name attributes children)) h e)) tt
+  next-element index (Some (items.element id name attributes children)) h e n =
+      subst NextElement (sym (entry-there index (Some (items.element id name attributes children)) h e)) tt
 
   bare-item : (index : ℕ) (of : Option Item) → index < length list → slice_get list index ≡ of → IsNoCharacter of → BareNode (slice_get row (end_of index))
   bare-item index None h e n = let past = past-end list index e in absurd (omega (arith, h, past))
   bare-item index (Some (items.character scalar attributes)) h e n = absurd n
-  bare-item index (Some (items.element id name attributes children)) h e n = subst BareNode (sym (entry-there index (Some (items.element id name attributes children)) (omega (arith, h)) e)) (tt, tt)
+  bare-item index (Some (items.element id name attributes children)) h e n =
+      subst BareNode (sym (entry-there index (Some (items.element id name attributes children)) (omega (arith, h)) e)) (tt, tt)
 
   -- where no character stands before a boundary, the item before it is none
-  none-before : (offset one_less : ℕ) → offset ≡ suc one_less → offset ≤ length list → character_before row (start_of offset) ≡ None → IsNoCharacter (slice_get list one_less)
+  none-before : (offset one_less : ℕ) → offset ≡ suc one_less → offset ≤ length list → character_before row (start_of offset) ≡ None
+      → IsNoCharacter (slice_get list one_less)
   none-before offset one_less k h e =
       let last : end_of one_less + 1 ≡ suc (end_of one_less) = omega arith in
-      no-layers one_less (slice_get list one_less) (omega (arith, h, k)) refl (subst (λ n. character_before row n ≡ None) (ap (entries_before scene path) k ∙ last) e)
+      no-layers one_less (slice_get list one_less) (omega (arith, h, k)) refl
+      (subst (λ n. character_before row n ≡ None) (ap (entries_before scene path) k ∙ last) e)
 
   bare-start : (offset : ℕ) → offset ≤ length list → character_before row (start_of offset) ≡ None → BareBefore row (start_of offset)
   bare-start zero h e = tt
@@ -220,8 +237,10 @@ module _ (scene : Scene) (parent path : List ℕ) (list : List Item) where
 -- ---- the place
 
 -- where no caret stands at a boundary
-seen-between : (row : List Entry) (start end number : ℕ) (before behind : Option (List Layer)) → AllStand (contents_of row) → start ≤ length row → end ≤ length row
-    → items_in (take start (contents_of row)) ≡ number → items_in (take end (contents_of row)) ≡ number → character_before row start ≡ before → character_layers_at row end ≡ behind
+seen-between : (row : List Entry) (start end number : ℕ) (before behind : Option (List Layer)) → AllStand (contents_of row) → start ≤ length row
+    → end ≤ length row
+    → items_in (take start (contents_of row)) ≡ number → items_in (take end (contents_of row)) ≡ number → character_before row start ≡ before
+    → character_layers_at row end ≡ behind
     → (before ≡ None → BareBefore row end) → (behind ≡ None → NextElement (slice_get row end))
     → (before ≡ None → (one_less : ℕ) → number ≡ suc one_less → is_character (item_among (nodes_of (nest row)) one_less) ≡ false)
     → (behind ≡ None → is_character (item_among (nodes_of (nest row)) number) ≡ false)
@@ -232,11 +251,13 @@ seen-between row start end number None (Some layers) s m n i j e h bare next kin
 seen-between row start end number None None s m n i j e h bare next kind kind_behind =
     shown-between row end number s n j (node-before row end (bare refl)) (between-nodes row end (bare refl) (next refl)) (kind refl) (kind_behind refl)
 
-items-at-start : (all before here behind : List Content) (start : ℕ) → all ≡ before ++ (here ++ behind) → start ≡ length before → items_in (take start all) ≡ items_in before
+items-at-start : (all before here behind : List Content) (start : ℕ) → all ≡ before ++ (here ++ behind) → start ≡ length before
+    → items_in (take start all) ≡ items_in before
 items-at-start all before here behind start e a =
     ap (λ list. items_in (take start list)) e ∙ ap items_in (take-rest before (here ++ behind) 0 start (omega (arith, a)) ∙ append-nil before)
 
-items-at-end : (all before here behind : List Content) (end : ℕ) → all ≡ before ++ (here ++ behind) → end ≡ length before + length here → items_in here ≡ 0 → items_in (take end all) ≡ items_in before
+items-at-end : (all before here behind : List Content) (end : ℕ) → all ≡ before ++ (here ++ behind) → end ≡ length before + length here
+    → items_in here ≡ 0 → items_in (take end all) ≡ items_in before
 items-at-end all before here behind end e b z =
     let quiet : items_in before + items_in here ≡ items_in before = omega (arith, z) in
     ap (λ list. items_in (take end list)) e
@@ -245,7 +266,8 @@ items-at-end all before here behind end e b z =
     ∙ items-append before here ∙ quiet
 
 -- a boundary without the caret is seen where the nodes say
-pub boundary-shown : (scene : Scene) (parent path : List ℕ) (list : List Item) (offset : ℕ) → HaveShapes scene.conversion parent 0 (items_of list) → offset ≤ length list
+pub boundary-shown : (scene : Scene) (parent path : List ℕ) (list : List Item) (offset : ℕ) → HaveShapes scene.conversion parent 0 (items_of list)
+    → offset ≤ length list
     → has_caret scene.caret (path ++ offset ∷ []) ≡ false
     → seen_among (nodes_of (nest (row_of scene parent path list))) offset 0 ≡ boundary_place scene parent path list offset
 boundary-shown scene parent path list offset s h has =
@@ -260,13 +282,16 @@ boundary-shown scene parent path list offset s h has =
     (ap contents_of a.row_is ∙ contents-append a.front (here ++ a.behind) ∙ ap (λ list. contents_of a.front ++ list) (contents-append here a.behind)) in
     let long : start ≡ length (contents_of a.front) = begins ∙ sym (contents-length a.front) in
     let long_here : length (contents_of here) ≡ length here = contents-length here in
-    seen-between (row_of scene parent path list) start end offset (character_before (row_of scene parent path list) start) (character_layers_at (row_of scene parent path list) end)
+    seen-between (row_of scene parent path list) start end offset (character_before (row_of scene parent path list) start)
+    (character_layers_at (row_of scene parent path list) end)
     (row-stands scene parent path 0 0 (items_of list) s)
     (omega (arith, size, begins)) (omega (arith, size, begins))
     (items-at-start _ (contents_of a.front) (contents_of here) (contents_of a.behind) start all long ∙ counts)
-    (items-at-end _ (contents_of a.front) (contents_of here) (contents_of a.behind) end all (λ i. long i + sym long_here i) (boundary-quiet scene (path ++ offset ∷ [])).1 ∙ counts)
+    (items-at-end _ (contents_of a.front) (contents_of here) (contents_of a.behind) end all (λ i. long i + sym long_here i)
+    (boundary-quiet scene (path ++ offset ∷ [])).1 ∙ counts)
     refl refl
-    (λ n. bare-behind (row_of scene parent path list) a.front here a.behind start end a.row_is begins refl (boundary-bare scene (path ++ offset ∷ []) has) (bare-start scene parent path list offset h n))
+    (λ n. bare-behind (row_of scene parent path list) a.front here a.behind start end a.row_is begins refl
+    (boundary-bare scene (path ++ offset ∷ []) has) (bare-start scene parent path list offset h n))
     (λ n. next-element scene parent path list offset (slice_get list offset) h refl (no-layers scene parent path list offset (slice_get list offset) h refl n))
     (λ n one_less k. no-character scene parent path list one_less (slice_get list one_less) s refl (none-before scene parent path list offset one_less k h n))
     (λ n. no-character scene parent path list offset (slice_get list offset) s refl (no-layers scene parent path list offset (slice_get list offset) h refl n))

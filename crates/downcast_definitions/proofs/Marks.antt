@@ -2,7 +2,8 @@
 use Rattle.std.proofs.Common.{◌≡◌, ℕ, zero, suc, List, [], ◌∷◌, Bool, true, false, if◌then◌else◌, Option, Some, None, refl, ap, ◌∙◌, subst}
 use Rattle.view_definitions.specs.Node.{ViewNode}
 use Rattle.view_definitions.specs.Layer.{Layer, same_layer, in_layer}
-use Rattle.view_definitions.specs.Row.{Content, leaf, item, character, caret, Entry, Piece, Pieces, nothing, first, bare, wrapped, put, pieces_of, content_before, shown, nest}
+use Rattle.view_definitions.specs.Row.{Content, leaf, item, character, caret, Entry, Piece, Pieces, nothing, first, bare, wrapped, put, pieces_of}
+use Rattle.view_definitions.specs.Row.{content_before, shown, nest}
 use Rattle.view_definitions.proofs.Layers.{same_layer-true, same_layer-itself}
 use Rattle.downcast_definitions.specs.Seen.{of_character, character_layers_at, common, layers_at, layers_before, character_before, marked, between}
 
@@ -23,12 +24,16 @@ pub put-cons : (layer : Layer) (layers : List Layer) (content : Content) (pieces
 put-cons layer layers content nothing = refl
 put-cons layer layers content (first (bare next) pieces) = refl
 put-cons layer layers content (first (wrapped other inner) pieces) =
-    elim (same_layer layer other) as (λ b. (if b then first (wrapped layer (put layers content inner)) pieces else first (wrapped layer (put layers content nothing)) (first (wrapped other inner) pieces)) ≡ first (wrapped layer (put layers content (if b then inner else nothing))) (if b then pieces else first (wrapped other inner) pieces)) [
+    elim (same_layer layer other) as
+    (λ b. (if b then first (wrapped layer (put layers content inner)) pieces
+    else first (wrapped layer (put layers content nothing)) (first (wrapped other inner) pieces))
+    ≡ first (wrapped layer (put layers content (if b then inner else nothing))) (if b then pieces else first (wrapped other inner) pieces)) [
       | true ↦ refl
       | false ↦ refl
     ]
 
-put-same : (layer : Layer) (layers : List Layer) (content : Content) (inner rest : Pieces) → put (layer ∷ layers) content (first (wrapped layer inner) rest) ≡ first (wrapped layer (put layers content inner)) rest
+put-same : (layer : Layer) (layers : List Layer) (content : Content) (inner rest : Pieces)
+    → put (layer ∷ layers) content (first (wrapped layer inner) rest) ≡ first (wrapped layer (put layers content inner)) rest
 put-same layer layers content inner rest = rw (same_layer-itself layer) refl
 
 -- two contents in one outermost layer
@@ -130,15 +135,20 @@ alike-behind layer (first (bare content) pieces) others h = no_layer-behind laye
 alike-behind layer (first (wrapped outer inner) pieces) nothing h = absurd h
 alike-behind layer (first (wrapped outer inner) pieces) (first (bare content) rest) h = absurd h
 alike-behind layer (first (wrapped outer inner) pieces) (first (wrapped other kids) rest) h =
-    subst (λ l. shown (if same_layer layer outer then pieces else first (wrapped outer inner) pieces) ≡ shown (if same_layer layer l then rest else first (wrapped other kids) rest)) h.0
+    subst (λ l. shown (if same_layer layer outer then pieces else first (wrapped outer inner) pieces)
+    ≡ shown (if same_layer layer l then rest else first (wrapped other kids) rest)) h.0
     (if-behind (same_layer layer outer) inner kids pieces rest outer other h.0 (alike-shown inner kids h.1) h.2)
 
 -- whatever is put before pieces that are alike, they stay so
-pub alike-put : (layers : List Layer) (content : Content) (pieces others : Pieces) → Alike pieces others → Alike (put layers content pieces) (put layers content others)
+pub alike-put : (layers : List Layer) (content : Content) (pieces others : Pieces) → Alike pieces others
+    → Alike (put layers content pieces) (put layers content others)
 alike-put [] content pieces others h = ap (content_before content) (alike-shown pieces others h)
 alike-put (layer ∷ layers) content pieces others h =
-    rw (put-cons layer layers content pieces, put-cons layer layers content others)
-    (refl, alike-put layers content (within_layer layer pieces) (within_layer layer others) (alike-within layer pieces others h), alike-behind layer pieces others h)
+    rw (put-cons layer layers content pieces, put-cons layer layers content others) (
+      refl,
+      alike-put layers content (within_layer layer pieces) (within_layer layer others) (alike-within layer pieces others h),
+      alike-behind layer pieces others h,
+    )
 
 -- a mark behind an entry, in its layers
 pub mark-behind : (layers : List Layer) (content : Content) (pieces : Pieces) → Alike (put layers content (put layers caret pieces)) (put layers content pieces)
@@ -160,9 +170,12 @@ pub mark-between : (layers others : List Layer) (content next : Content) (pieces
 mark-between [] others content next pieces = refl
 mark-between (layer ∷ layers) [] content next pieces = (refl, alike-itself (put layers content nothing), refl)
 mark-between (layer ∷ layers) (other ∷ others) content next pieces =
-    elim (same_layer layer other) as (λ b. same_layer layer other ≡ b → Alike (put (layer ∷ layers) content (put (if b then layer ∷ common layers others else []) caret (put (other ∷ others) next pieces))) (put (layer ∷ layers) content (put (other ∷ others) next pieces))) [
+    elim (same_layer layer other) as (λ b. same_layer layer other ≡ b
+    → Alike (put (layer ∷ layers) content (put (if b then layer ∷ common layers others else []) caret (put (other ∷ others) next pieces)))
+    (put (layer ∷ layers) content (put (other ∷ others) next pieces))) [
       | true ↦ λ e.
-          subst (λ l. Alike (put (layer ∷ layers) content (put (layer ∷ common layers others) caret (put (l ∷ others) next pieces))) (put (layer ∷ layers) content (put (l ∷ others) next pieces)))
+          subst (λ l. Alike (put (layer ∷ layers) content (put (layer ∷ common layers others) caret (put (l ∷ others) next pieces)))
+          (put (layer ∷ layers) content (put (l ∷ others) next pieces)))
           (same_layer-true layer other e)
           (rw (put-thrice layer layers (common layers others) others content caret next pieces, put-twice layer layers others content next pieces)
           (refl, mark-between layers others content next (within_layer layer pieces), refl))
@@ -186,33 +199,38 @@ of_character-is (item node) own layers e = cc
 of_character-is (character scalar) own layers e = cc
 of_character-is caret own layers e = cc
 
-row-behind : (row : List Entry) (number : ℕ) (layers : List Layer) → character_layers_at row number ≡ Some layers → Alike (pieces_of (with_mark row (suc number) layers)) (pieces_of row)
+row-behind : (row : List Entry) (number : ℕ) (layers : List Layer) → character_layers_at row number ≡ Some layers
+    → Alike (pieces_of (with_mark row (suc number) layers)) (pieces_of row)
 row-behind [] number layers e = cc
 row-behind (entry ∷ row) zero layers e =
     subst (λ ls. Alike (put entry.layers entry.content (put ls caret (pieces_of row))) (put entry.layers entry.content (pieces_of row)))
     (of_character-is entry.content entry.layers layers e) (mark-behind entry.layers entry.content (pieces_of row))
 row-behind (entry ∷ row) (suc number) layers e = alike-put entry.layers entry.content _ _ (row-behind row number layers e)
 
-row-before : (row : List Entry) (number : ℕ) (layers : List Layer) → character_layers_at row number ≡ Some layers → Alike (pieces_of (with_mark row number layers)) (pieces_of row)
+row-before : (row : List Entry) (number : ℕ) (layers : List Layer) → character_layers_at row number ≡ Some layers
+    → Alike (pieces_of (with_mark row number layers)) (pieces_of row)
 row-before [] number layers e = cc
 row-before (entry ∷ row) zero layers e =
     subst (λ ls. Alike (put ls caret (put entry.layers entry.content (pieces_of row))) (put entry.layers entry.content (pieces_of row)))
     (of_character-is entry.content entry.layers layers e) (mark-before entry.layers entry.content (pieces_of row))
 row-before (entry ∷ row) (suc number) layers e = alike-put entry.layers entry.content _ _ (row-before row number layers e)
 
-row-between : (row : List Entry) (number : ℕ) → Alike (pieces_of (with_mark row (suc number) (common (layers_at row number) (layers_at row (suc number))))) (pieces_of row)
+row-between : (row : List Entry) (number : ℕ)
+    → Alike (pieces_of (with_mark row (suc number) (common (layers_at row number) (layers_at row (suc number))))) (pieces_of row)
 row-between [] number = refl
 row-between (entry ∷ []) zero = mark-last entry.layers entry.content
 row-between (entry ∷ next ∷ row) zero = mark-between entry.layers next.layers entry.content next.content (pieces_of row)
 row-between (entry ∷ row) (suc number) = alike-put entry.layers entry.content _ _ (row-between row number)
 
 -- A mark right behind a character, in its layers, leaves the nodes as they are,
-pub mark-behind-nest : (row : List Entry) (number : ℕ) (layers : List Layer) → character_before row number ≡ Some layers → nest (marked row number layers).row ≡ nest row
+pub mark-behind-nest : (row : List Entry) (number : ℕ) (layers : List Layer) → character_before row number ≡ Some layers
+    → nest (marked row number layers).row ≡ nest row
 mark-behind-nest row zero layers e = cc
 mark-behind-nest row (suc number) layers e = alike-shown _ _ (row-behind row number layers e)
 
 -- also one right before a character, in its layers,
-pub mark-before-nest : (row : List Entry) (number : ℕ) (layers : List Layer) → character_layers_at row number ≡ Some layers → nest (marked row number layers).row ≡ nest row
+pub mark-before-nest : (row : List Entry) (number : ℕ) (layers : List Layer) → character_layers_at row number ≡ Some layers
+    → nest (marked row number layers).row ≡ nest row
 mark-before-nest row number layers e = alike-shown _ _ (row-before row number layers e)
 
 -- and one anywhere in the layers that go on there
@@ -221,7 +239,8 @@ mark-between-nest row zero = refl
 mark-between-nest row (suc number) = alike-shown _ _ (row-between row number)
 
 -- the mark of a boundary leaves the nodes as they are
-pub between-nest : (row : List Entry) (start end : ℕ) (before behind : Option (List Layer)) → character_before row start ≡ before → character_layers_at row end ≡ behind
+pub between-nest : (row : List Entry) (start end : ℕ) (before behind : Option (List Layer)) → character_before row start ≡ before
+    → character_layers_at row end ≡ behind
     → nest (between row start end before behind).row ≡ nest row
 between-nest row start end (Some layers) behind e h = mark-behind-nest row start layers e
 between-nest row start end None (Some layers) e h = mark-before-nest row end layers h

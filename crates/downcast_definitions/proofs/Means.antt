@@ -1,14 +1,18 @@
 -- The place that is found for an entry of a row means what stands before the entry.
-use Rattle.std.proofs.Common.{◌≡◌, ℕ, ◌+◌, ◌-◌, ◌<◌, ◌≤◌, zero, suc, List, [], ◌∷◌, ◌++◌, take, length, Bool, true, false, if◌then◌else◌, Option, Some, None, refl, sym, ap, ◌∙◌, subst, append_assoc, append-nil, arith, length-append}
+use Rattle.std.proofs.Common.{◌≡◌, ℕ, ◌+◌, ◌-◌, ◌<◌, ◌≤◌, zero, suc, List, [], ◌∷◌, ◌++◌, take, length, Bool, true, false, if◌then◌else◌, Option, Some, None}
+use Rattle.std.proofs.Common.{refl, sym, ap, ◌∙◌, subst, append_assoc, append-nil, arith, length-append}
 use Rattle.std.proofs.lemmas.List.{take-append-le}
 use Rattle.std.proofs.lemmas.Bool.{le-leb}
 use Rattle.std.specs.Prelude.{slice_get, nat_lt, ◌==◌}
 use Rattle.view_definitions.specs.Node.{Kind, container, attribute, empty, ui, Head, ViewNode, ViewNodes, text, element, nodes_of}
 use Rattle.view_definitions.specs.Layer.{Layer, in_layer, layer_head}
-use Rattle.view_definitions.specs.Row.{Content, leaf, item, character, caret, Entry, Piece, Pieces, nothing, first, bare, wrapped, pieces_of, character_before, content_before, shown, nest, join_node, is_item_kind, is_element}
-use Rattle.downcast_definitions.specs.Place.{pieces_size, Passed, none_passed, node_more, character_more, behind_content, begins_with_text, Found, as_place, as_node, in_pieces}
+use Rattle.view_definitions.specs.Row.{Content, leaf, item, character, caret, Entry, Piece, Pieces, nothing, first, bare, wrapped, pieces_of, character_before}
+use Rattle.view_definitions.specs.Row.{content_before, shown, nest, join_node, is_item_kind, is_element}
+use Rattle.downcast_definitions.specs.Place.{pieces_size, Passed, none_passed, node_more, character_more, behind_content, begins_with_text, Found, as_place}
+use Rattle.downcast_definitions.specs.Place.{as_node, in_pieces}
 use Rattle.downcast_definitions.specs.Meant.{model_length, inner_length, Inners, in_text, in_item, by_kind, meant_in}
-use Rattle.downcast_definitions.proofs.Entries.{may_stand, AllStand, counted, items_in, contents, contents_of, contents-size, contents-row, stand-front, stand-rest, items-append, get-front, get-rest, take-rest, leaf-counts, item-counts, shown-counts}
+use Rattle.downcast_definitions.proofs.Entries.{may_stand, AllStand, counted, items_in, contents, contents_of, contents-size, contents-row, stand-front}
+use Rattle.downcast_definitions.proofs.Entries.{stand-rest, items-append, get-front, get-rest, take-rest, leaf-counts, item-counts, shown-counts}
 use Rattle.ck_base.proofs.Common.{is_below, not_below, not_zero}
 
 -- How places behind a text of this length, the last of `count` nodes, are read: so many items stand before the text, and it goes on with the
@@ -19,7 +23,8 @@ pub record InText (inners : Inners) (reads : List ℕ → Option (List ℕ)) (of
   pub long : length scalars ≡ len
   pub offset_is : offset ≡ before + len
   pub some : 1 ≤ count
-  pub reading : (at index : ℕ) (rest : List ℕ) → suc at ≡ count + index → reads (at ∷ rest) ≡ meant_in inners before (nodes_of (join_node (text scalars) nodes)) (index ∷ rest)
+  pub reading : (at index : ℕ) (rest : List ℕ) → suc at ≡ count + index
+      → reads (at ∷ rest) ≡ meant_in inners before (nodes_of (join_node (text scalars) nodes)) (index ∷ rest)
 
 abbrev pub ReadsFrom : Inners → (List ℕ → Option (List ℕ)) → ℕ → List ViewNode → ℕ → Option ℕ → Type 0
 ReadsFrom inners reads offset nodes count None =
@@ -31,7 +36,8 @@ abbrev pub Reads : Inners → (List ℕ → Option (List ℕ)) → ℕ → List 
 Reads inners reads offset nodes passed = ReadsFrom inners reads offset nodes passed.nodes passed.in_text
 
 -- behind an element
-pub reads-node : (inners : Inners) (reads : List ℕ → Option (List ℕ)) (offset : ℕ) (head : Head) (children : ViewNodes) (nodes : List ViewNode) (count : ℕ) (was : Option ℕ)
+pub reads-node : (inners : Inners) (reads : List ℕ → Option (List ℕ)) (offset : ℕ) (head : Head) (children : ViewNodes) (nodes : List ViewNode)
+    (count : ℕ) (was : Option ℕ)
     → ReadsFrom inners reads offset (element head children ∷ nodes) count was
     → ReadsFrom inners reads (offset + model_length (element head children)) nodes (count + 1) None
 reads-node inners reads offset head children nodes count None h = λ at index rest e. h at (suc index) rest (omega (arith, e))
@@ -46,7 +52,8 @@ character-joins scalar [] = refl
 character-joins scalar (text scalars ∷ nodes) = refl
 character-joins scalar (element head children ∷ nodes) = refl
 
-pub character-joins-behind : (scalars : List ℕ) (scalar : ℕ) (nodes : List ViewNode) → join_node (text scalars) (character_before scalar nodes) ≡ join_node (text (scalars ++ scalar ∷ [])) nodes
+pub character-joins-behind : (scalars : List ℕ) (scalar : ℕ) (nodes : List ViewNode) → join_node (text scalars) (character_before scalar nodes)
+    ≡ join_node (text (scalars ++ scalar ∷ [])) nodes
 character-joins-behind scalars scalar [] = refl
 character-joins-behind scalars scalar (text others ∷ nodes) = ap (λ all. text all ∷ nodes) (sym (append_assoc scalars (scalar ∷ []) others))
 character-joins-behind scalars scalar (element head children ∷ nodes) = refl
@@ -87,14 +94,17 @@ reads-within inners reads offset layer inside nodes count (Some len) h =
     ∙ ap (λ n. meant_in inners n (nodes_of inside) (at ∷ rest)) o
     ∙ ap (λ n. meant_in inners offset (nodes_of inside) (n ∷ rest)) (omega (arith, e))
 
-reads-at : (inners : Inners) (reads : List ℕ → Option (List ℕ)) (offset more_items : ℕ) (nodes : List ViewNode) (passed : Passed) → more_items ≡ 0 → Reads inners reads offset nodes passed → Reads inners reads (offset + more_items) nodes passed
+reads-at : (inners : Inners) (reads : List ℕ → Option (List ℕ)) (offset more_items : ℕ) (nodes : List ViewNode) (passed : Passed) → more_items ≡ 0
+    → Reads inners reads offset nodes passed → Reads inners reads (offset + more_items) nodes passed
 reads-at inners reads offset more_items nodes passed e h = subst (λ o. Reads inners reads o nodes passed) (omega (arith, e)) h
 
-reads-counted : (inners : Inners) (reads : List ℕ → Option (List ℕ)) (offset counts is : ℕ) (nodes : List ViewNode) (passed : Passed) → counts ≡ is → Reads inners reads (offset + counts) nodes passed → Reads inners reads (offset + is) nodes passed
+reads-counted : (inners : Inners) (reads : List ℕ → Option (List ℕ)) (offset counts is : ℕ) (nodes : List ViewNode) (passed : Passed) → counts ≡ is
+    → Reads inners reads (offset + counts) nodes passed → Reads inners reads (offset + is) nodes passed
 reads-counted inners reads offset counts is nodes passed e h = subst (λ o. Reads inners reads (offset + o) nodes passed) e h
 
 -- behind a content
-pub reads-behind : (inners : Inners) (reads : List ℕ → Option (List ℕ)) (offset : ℕ) (content : Content) (nodes : List ViewNode) (passed : Passed) → may_stand content ≡ true
+pub reads-behind : (inners : Inners) (reads : List ℕ → Option (List ℕ)) (offset : ℕ) (content : Content) (nodes : List ViewNode) (passed : Passed)
+    → may_stand content ≡ true
     → Reads inners reads offset (content_before content nodes) passed → Reads inners reads (offset + counted content) nodes (behind_content content passed)
 reads-behind inners reads offset (leaf (text scalars)) nodes passed e h = cc
 reads-behind inners reads offset (leaf (element head children)) nodes passed e h =
@@ -140,12 +150,14 @@ first-place : (inners : Inners) (offset : ℕ) (nodes : List ViewNode) → meant
 first-place inners offset [] = refl
 first-place inners offset (node ∷ nodes) = refl
 
-first-text : (inners : Inners) (offset : ℕ) (nodes : List ViewNode) → starts_text nodes ≡ true → meant_in inners offset (nodes_of nodes) (0 ∷ 0 ∷ []) ≡ Some (offset ∷ [])
+first-text : (inners : Inners) (offset : ℕ) (nodes : List ViewNode) → starts_text nodes ≡ true → meant_in inners offset (nodes_of nodes) (0 ∷ 0 ∷ [])
+    ≡ Some (offset ∷ [])
 first-text inners offset [] e = cc
 first-text inners offset (text scalars ∷ nodes) e = in_text-there offset (length scalars) 0 (omega arith) ∙ ap (λ n. Some (n ∷ [])) (omega arith)
 first-text inners offset (element head children ∷ nodes) e = cc
 
-joined-text : (inners : Inners) (offset len : ℕ) (scalars : List ℕ) (nodes : List ViewNode) → length scalars ≡ len → meant_in inners offset (nodes_of (join_node (text scalars) nodes)) (0 ∷ len ∷ []) ≡ Some ((offset + len) ∷ [])
+joined-text : (inners : Inners) (offset len : ℕ) (scalars : List ℕ) (nodes : List ViewNode) → length scalars ≡ len
+    → meant_in inners offset (nodes_of (join_node (text scalars) nodes)) (0 ∷ len ∷ []) ≡ Some ((offset + len) ∷ [])
 joined-text inners offset len scalars [] e = in_text-there offset (length scalars) len (omega (arith, e))
 joined-text inners offset len scalars (text others ∷ nodes) e =
     let l : length (scalars ++ others) ≡ length scalars + length others = length-append scalars others in
@@ -171,7 +183,8 @@ item-inside inners offset empty around inside e = refl
 item-inside inners offset ui around inside e = cc
 
 -- a place in the node of an item is one in the item
-pub node-base : (inners : Inners) (reads : List ℕ → Option (List ℕ)) (offset : ℕ) (node : ViewNode) (nodes : List ViewNode) (count : ℕ) (was : Option ℕ) (index : ℕ) (rest : List ℕ)
+pub node-base : (inners : Inners) (reads : List ℕ → Option (List ℕ)) (offset : ℕ) (node : ViewNode) (nodes : List ViewNode) (count : ℕ) (was : Option ℕ)
+    (index : ℕ) (rest : List ℕ)
     → is_element is_item_kind node ≡ true → ReadsFrom inners reads offset (node ∷ nodes) count was
     → reads (count ∷ index ∷ rest) ≡ in_item inners offset (index ∷ rest)
 node-base inners reads offset (text scalars) nodes count was index rest e h = cc
@@ -200,7 +213,8 @@ module _ (inners : Inners) (content : Content) (found : Found) (tail : List ℕ)
   bare-means : (next : Content) (pieces : Pieces) → Claim pieces → Claim (first (bare next) pieces)
   bare-means next pieces ih zero passed offset reads s e h =
       let same : next ≡ content = (let k : Some next ≡ Some content = e in cc) in
-      base reads offset (shown pieces) passed (begins_with_text pieces) (shown-starts pieces) (subst (λ c. Reads inners reads offset (content_before c (shown pieces)) passed) same h)
+      base reads offset (shown pieces) passed (begins_with_text pieces) (shown-starts pieces)
+      (subst (λ c. Reads inners reads offset (content_before c (shown pieces)) passed) same h)
       ∙ ap want (omega arith)
   bare-means next pieces ih (suc number) passed offset reads s e h =
       ap (λ place. reads (place ++ tail)) (later number (found passed (begins_with_text pieces)) (λ n. in_pieces found pieces n (behind_content next passed)))
@@ -212,7 +226,10 @@ module _ (inners : Inners) (content : Content) (found : Found) (tail : List ℕ)
       let xs = contents inner in
       let ys = contents pieces in
       let size : pieces_size inner ≡ length (contents inner) = contents-size inner in
-      elim (nat_lt number (pieces_size inner)) as (λ b. nat_lt number (pieces_size inner) ≡ b → reads ((if b then passed.nodes ∷ in_pieces found inner number none_passed else in_pieces found pieces (number - pieces_size inner) (node_more passed)) ++ tail) ≡ want (offset + items_in (take number (contents inner ++ contents pieces)))) [
+      elim (nat_lt number (pieces_size inner)) as (λ b. nat_lt number (pieces_size inner) ≡ b
+      → reads ((if b then passed.nodes ∷ in_pieces found inner number none_passed
+      else in_pieces found pieces (number - pieces_size inner) (node_more passed)) ++ tail)
+      ≡ want (offset + items_in (take number (contents inner ++ contents pieces)))) [
         | true ↦ λ b.
             let below : number < length (contents inner) = (let k : number < pieces_size inner = is_below _ _ b in omega (arith, k, size)) in
             within number none_passed offset (λ place. reads (passed.nodes ∷ place)) (stand-front (contents inner) (contents pieces) s)
@@ -222,12 +239,14 @@ module _ (inners : Inners) (content : Content) (found : Found) (tail : List ℕ)
         | false ↦ λ b.
             let k : pieces_size inner ≤ number = not_below _ _ b in
             let place : number ≡ length (contents inner) + (number - pieces_size inner) = omega (arith, k, size) in
-            let items : items_in (take number (contents inner ++ contents pieces)) ≡ items_in (contents inner) + items_in (take (number - pieces_size inner) (contents pieces)) =
+            let items : items_in (take number (contents inner ++ contents pieces))
+            ≡ items_in (contents inner) + items_in (take (number - pieces_size inner) (contents pieces)) =
             (ap items_in (take-rest (contents inner) (contents pieces) (number - pieces_size inner) number place)
             ∙ items-append (contents inner) (take (number - pieces_size inner) (contents pieces))) in
             ih (number - pieces_size inner) (node_more passed) (offset + items_in (contents inner)) reads (stand-rest (contents inner) (contents pieces) s)
             (sym (get-rest (contents inner) (contents pieces) (number - pieces_size inner) number place) ∙ e)
-            (reads-counted inners reads offset (inner_length (nodes_of (shown inner))) (items_in (contents inner)) (shown pieces) (node_more passed) (shown-counts inner (stand-front (contents inner) (contents pieces) s))
+            (reads-counted inners reads offset (inner_length (nodes_of (shown inner))) (items_in (contents inner)) (shown pieces) (node_more passed)
+            (shown-counts inner (stand-front (contents inner) (contents pieces) s))
             (reads-node inners reads offset (layer_head layer) (nodes_of (shown inner)) (shown pieces) passed.nodes passed.in_text h))
             ∙ ap want (omega (arith, items))
       ] refl
@@ -248,11 +267,13 @@ place-means-in : (inners : Inners) (pieces : Pieces) (number : ℕ) (passed : Pa
 place-means-in inners pieces number passed offset reads s e h =
     ap reads (sym (append-nil (in_pieces as_place pieces number passed)))
     ∙ pieces-mean inners caret as_place [] (λ n. Some (n ∷ []))
-    (λ all at nodes before behind starts r. ap all (append-nil (as_place before behind)) ∙ place-base inners all at nodes before.nodes before.in_text behind starts r)
+    (λ all at nodes before behind starts r. ap all (append-nil (as_place before behind))
+    ∙ place-base inners all at nodes before.nodes before.in_text behind starts r)
     pieces number passed offset reads s e h
 
 -- and what goes on in the node of an item is a place in the item
-node-means-in : (inners : Inners) (node : ViewNode) (index : ℕ) (rest : List ℕ) (pieces : Pieces) (number : ℕ) (passed : Passed) (offset : ℕ) (reads : List ℕ → Option (List ℕ)) → AllStand (contents pieces)
+node-means-in : (inners : Inners) (node : ViewNode) (index : ℕ) (rest : List ℕ) (pieces : Pieces) (number : ℕ) (passed : Passed) (offset : ℕ)
+    (reads : List ℕ → Option (List ℕ)) → AllStand (contents pieces)
     → is_element is_item_kind node ≡ true → slice_get (contents pieces) number ≡ Some (item node) → Reads inners reads offset (shown pieces) passed
     → reads (in_pieces as_node pieces number passed ++ (index ∷ rest)) ≡ in_item inners (offset + items_in (take number (contents pieces))) (index ∷ rest)
 node-means-in inners node index rest pieces number passed offset reads s i e h =

@@ -18,7 +18,8 @@ abbrev IsSeenIn : Scene → List ℕ → List ℕ → List ℕ → List ℕ → 
 IsSeenIn scene path position place name list =
     HaveShapes scene.conversion name 0 (items_of list) × (place ≡ boundary_place scene name (path ++ parent_of position) list (offset_of position))
 
-in-item : (scene : Scene) (parent path : List ℕ) (list : List Item) (index next : ℕ) (rest name : List ℕ) (inner : List Item) (of : Option Item) → HaveShapes scene.conversion parent 0 (items_of list)
+in-item : (scene : Scene) (parent path : List ℕ) (list : List Item) (index next : ℕ) (rest name : List ℕ) (inner : List Item) (of : Option Item)
+    → HaveShapes scene.conversion parent 0 (items_of list)
     → slice_get list index ≡ of → in_parent (λ own children. parent_in own children (next ∷ rest)) of ≡ Some (name, inner)
     → ((own : List ℕ) (children : List Item) → HaveShapes scene.conversion own 0 (items_of children) → parent_in own children (next ∷ rest) ≡ Some (name, inner)
     → IsSeenIn scene (path ++ index ∷ []) (next ∷ rest) (place_in scene own (path ++ index ∷ []) children (next ∷ rest)) name inner)
@@ -30,7 +31,8 @@ in-item scene parent path list index next rest name inner (Some (items.element i
     let made = ih own (list_of children) (subst (HaveShapes scene.conversion own 0) (sym (same-items children)) shape.1) e in
     (made.0, made.1 ∙ ap (λ p. boundary_place scene name p inner (offset_of (next ∷ rest))) (append_assoc path (index ∷ []) (parent_of (next ∷ rest))))
 
-in-parent : (scene : Scene) (parent path : List ℕ) (list : List Item) (position name : List ℕ) (inner : List Item) → HaveShapes scene.conversion parent 0 (items_of list)
+in-parent : (scene : Scene) (parent path : List ℕ) (list : List Item) (position name : List ℕ) (inner : List Item)
+    → HaveShapes scene.conversion parent 0 (items_of list)
     → parent_in parent list position ≡ Some (name, inner) → IsSeenIn scene path position (place_in scene parent path list position) name inner
 in-parent scene parent path list [] name inner s e = cc
 in-parent scene parent path list (offset ∷ []) name inner s e =
@@ -44,8 +46,10 @@ in-parent scene parent path list (index ∷ next ∷ rest) name inner s e =
     in-item scene parent path list index next rest name inner (slice_get list index) s refl e
     (λ own children h k. in-parent scene own (path ++ index ∷ []) children (next ∷ rest) name inner h k)
 
-pub in-document : (conversion : Conversion) (document : Document) (position name : List ℕ) (list : List Item) → HasShapes conversion document → parent_at document position ≡ Some (name, list)
-    → HaveShapes conversion name 0 (items_of list) × (content_place conversion document position ≡ boundary_place (scene_of conversion document) name (parent_of position) list (offset_of position))
+pub in-document : (conversion : Conversion) (document : Document) (position name : List ℕ) (list : List Item) → HasShapes conversion document
+    → parent_at document position ≡ Some (name, list)
+    → HaveShapes conversion name 0 (items_of list)
+    × (content_place conversion document position ≡ boundary_place (scene_of conversion document) name (parent_of position) list (offset_of position))
 in-document conversion document position name list s e =
     let made = in-parent (scene_of conversion document) (codes "$root") [] document.items position name list s e in
     (made.0, made.1)

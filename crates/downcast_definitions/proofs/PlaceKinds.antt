@@ -1,10 +1,12 @@
 -- Whether the place that is found for a mark is in a text, at its start or behind a character, or between nodes.
-use Rattle.std.proofs.Common.{◌≡◌, ℕ, zero, suc, ◌+◌, ◌-◌, ◌<◌, ◌≤◌, List, [], ◌∷◌, ◌++◌, length, Bool, true, false, Option, Some, None, is_some, refl, sym, ap, ◌∙◌, subst, length-append, arith}
+use Rattle.std.proofs.Common.{◌≡◌, ℕ, zero, suc, ◌+◌, ◌-◌, ◌<◌, ◌≤◌, List, [], ◌∷◌, ◌++◌, length, Bool, true, false, Option, Some, None, is_some, refl, sym, ap}
+use Rattle.std.proofs.Common.{◌∙◌, subst, length-append, arith}
 use Rattle.std.proofs.lemmas.Bool.Decides.{nat_tests}
 use Rattle.std.specs.Prelude.{slice_get, nat_lt, if◌then◌else◌}
 use Rattle.view_definitions.specs.Node.{Kind, container, attribute, empty, ui, Head, ViewNode, ViewNodes, text, element, none, more, nodes_of}
 use Rattle.view_definitions.specs.Layer.{Layer, in_layer, layer_head}
-use Rattle.view_definitions.specs.Row.{Content, leaf, item, character, caret, Piece, Pieces, nothing, first, bare, wrapped, character_before, content_before, shown, join_node}
+use Rattle.view_definitions.specs.Row.{Content, leaf, item, character, caret, Piece, Pieces, nothing, first, bare, wrapped, character_before, content_before}
+use Rattle.view_definitions.specs.Row.{shown, join_node}
 use Rattle.downcast_definitions.specs.Place.{pieces_size, Passed, none_passed, character_more, behind_content, begins_with_text, as_place, in_pieces}
 use Rattle.downcast_definitions.proofs.Entries.{may_stand, AllStand, contents, contents-size, stand-front, stand-rest, get-front, get-rest}
 use Rattle.downcast_definitions.proofs.Means.{character-joins, character-joins-behind, starts_text, shown-starts, later}
@@ -94,7 +96,8 @@ joined-kind scalars [] len h = ap Some (is_above len h)
 joined-kind scalars (text others ∷ nodes) len h = ap Some (is_above len h)
 joined-kind scalars (element head children ∷ nodes) len h = ap Some (is_above len h)
 
-place-kind : (reads : List ℕ → Option Bool) (nodes : List ViewNode) (count : ℕ) (was : Option ℕ) (behind : Bool) → (behind ≡ true → starts_text nodes ≡ true) → ReadsFrom reads nodes count was
+place-kind : (reads : List ℕ → Option Bool) (nodes : List ViewNode) (count : ℕ) (was : Option ℕ) (behind : Bool)
+    → (behind ≡ true → starts_text nodes ≡ true) → ReadsFrom reads nodes count was
     → reads (as_place (record { nodes = count; in_text = was }) behind) ≡ kind_of (is_some was) behind
 place-kind reads nodes count None true s h = h count 0 (0 ∷ []) (omega arith) ∙ start-kind nodes (s refl)
 place-kind reads nodes count None false s h = h count 0 [] (omega arith) ∙ first-kind nodes
@@ -104,23 +107,31 @@ place-kind reads nodes count (Some len) behind s h =
 
 abbrev Claim : Pieces → Type 0
 Claim pieces =
-    (number count : ℕ) (was : Option ℕ) (reads : List ℕ → Option Bool) → AllStand (contents pieces) → slice_get (contents pieces) number ≡ Some caret → ReadsFrom reads (shown pieces) count was
-    → reads (in_pieces as_place pieces number (record { nodes = count; in_text = was })) ≡ kind_of (text_before (is_some was) pieces number) (text_behind pieces number)
+    (number count : ℕ) (was : Option ℕ) (reads : List ℕ → Option Bool) → AllStand (contents pieces) → slice_get (contents pieces) number ≡ Some caret
+    → ReadsFrom reads (shown pieces) count was
+    → reads (in_pieces as_place pieces number (record { nodes = count; in_text = was }))
+    ≡ kind_of (text_before (is_some was) pieces number) (text_behind pieces number)
 
 bare-kind : (next : Content) (pieces : Pieces) → Claim pieces → Claim (first (bare next) pieces)
 bare-kind next pieces ih zero count was reads s e h =
     let same : next ≡ caret = (let k : Some next ≡ Some caret = e in cc) in
-    place-kind reads (shown pieces) count was (begins_with_text pieces) (shown-starts pieces) (subst (λ c. ReadsFrom reads (content_before c (shown pieces)) count was) same h)
+    place-kind reads (shown pieces) count was (begins_with_text pieces) (shown-starts pieces)
+    (subst (λ c. ReadsFrom reads (content_before c (shown pieces)) count was) same h)
 bare-kind next pieces ih (suc number) count was reads s e h =
     let passed : Passed = behind_content next (record { nodes = count; in_text = was }) in
-    ap reads (later number (as_place (record { nodes = count; in_text = was }) (begins_with_text pieces)) (λ n. in_pieces as_place pieces n (behind_content next (record { nodes = count; in_text = was }))))
+    ap reads (later number (as_place (record { nodes = count; in_text = was }) (begins_with_text pieces))
+    (λ n. in_pieces as_place pieces n (behind_content next (record { nodes = count; in_text = was }))))
     ∙ ih number passed.nodes passed.in_text reads s.1 e (reads-behind reads next (shown pieces) (record { nodes = count; in_text = was }) s.0 h)
     ∙ ap (λ b. kind_of (text_before b pieces number) (text_behind pieces number)) (in_text-after next count was)
 
 wrapped-kind : (layer : Layer) (inner pieces : Pieces) → Claim inner → Claim pieces → Claim (first (wrapped layer inner) pieces)
 wrapped-kind layer inner pieces within ih number count was reads s e h =
     let size : pieces_size inner ≡ length (contents inner) = contents-size inner in
-    elim (nat_lt number (pieces_size inner)) as (λ b. nat_lt number (pieces_size inner) ≡ b → reads (if b then count ∷ in_pieces as_place inner number none_passed else in_pieces as_place pieces (number - pieces_size inner) (record { nodes = count + 1; in_text = None })) ≡ kind_of (if b then text_before false inner number else text_before false pieces (number - pieces_size inner)) (if b then text_behind inner number else text_behind pieces (number - pieces_size inner))) [
+    elim (nat_lt number (pieces_size inner)) as (λ b. nat_lt number (pieces_size inner) ≡ b
+    → reads (if b then count ∷ in_pieces as_place inner number none_passed
+    else in_pieces as_place pieces (number - pieces_size inner) (record { nodes = count + 1; in_text = None }))
+    ≡ kind_of (if b then text_before false inner number else text_before false pieces (number - pieces_size inner)) (if b
+    then text_behind inner number else text_behind pieces (number - pieces_size inner))) [
       | true ↦ λ b.
           let below : number < length (contents inner) = (let k : number < pieces_size inner = is_below _ _ b in omega (arith, k, size)) in
           within number 0 None (λ place. reads (count ∷ place)) (stand-front (contents inner) (contents pieces) s)
@@ -147,4 +158,5 @@ mutual
 pub mark-kind : (pieces : Pieces) (number : ℕ) → AllStand (contents pieces) → slice_get (contents pieces) number ≡ Some caret
     → kind_at (nodes_of (shown pieces)) (in_pieces as_place pieces number none_passed) ≡ kind_of (text_before false pieces number) (text_behind pieces number)
 mark-kind pieces number s e =
-    pieces-kind pieces number 0 None (kind_at (nodes_of (shown pieces))) s e (λ at index rest k. ap (λ n. kind_at (nodes_of (shown pieces)) (n ∷ rest)) (omega (arith, k)))
+    pieces-kind pieces number 0 None (kind_at (nodes_of (shown pieces))) s e
+    (λ at index rest k. ap (λ n. kind_at (nodes_of (shown pieces)) (n ∷ rest)) (omega (arith, k)))

@@ -1,17 +1,20 @@
 -- Which item stands among the nodes of a row.
-use Rattle.std.proofs.Common.{◌≡◌, ℕ, zero, suc, ◌+◌, ◌-◌, ◌<◌, ◌≤◌, List, [], ◌∷◌, ◌++◌, length, Bool, true, false, Option, Some, None, refl, sym, ap, ◌∙◌, subst, append-nil, arith}
+use Rattle.std.proofs.Common.{◌≡◌, ℕ, zero, suc, ◌+◌, ◌-◌, ◌<◌, ◌≤◌, List, [], ◌∷◌, ◌++◌, length, Bool, true, false, Option, Some, None, refl, sym, ap, ◌∙◌}
+use Rattle.std.proofs.Common.{subst, append-nil, arith}
 use Rattle.std.specs.Prelude.{slice_get, nat_lt, option_map, if◌then◌else◌}
 use Rattle.item_definitions.specs.Item.{Item, Items, items_of}
 use Rattle.item_definitions.specs.Item as items
 use Rattle.view_definitions.specs.Node.{Kind, container, attribute, empty, ui, ViewNode, ViewNodes, text, element, none, more, nodes_of}
 use Rattle.view_definitions.specs.Layer.{Layer, in_layer}
-use Rattle.view_definitions.specs.Row.{Content, leaf, item, character, caret, Entry, Piece, Pieces, nothing, first, bare, wrapped, pieces_of, content_before, shown, nest, is_item_kind, is_element}
+use Rattle.view_definitions.specs.Row.{Content, leaf, item, character, caret, Entry, Piece, Pieces, nothing, first, bare, wrapped, pieces_of, content_before}
+use Rattle.view_definitions.specs.Row.{shown, nest, is_item_kind, is_element}
 use Rattle.downcast_definitions.specs.Scene.{Scene, boundary}
 use Rattle.downcast_definitions.specs.Rows.{elements_in, shape_at, element_node, entry_of, inner_row, row_of}
 use Rattle.downcast_definitions.specs.Meant.{model_length, inner_length}
 use Rattle.downcast_definitions.specs.Seen.{elements_before}
 use Rattle.downcast_definitions.specs.Shown.{HaveShapes}
-use Rattle.downcast_definitions.proofs.Entries.{may_stand, AllStand, counted, items_in, contents, contents_of, contents-row, stand-front, stand-rest, leaf-counts, item-counts, shown-counts}
+use Rattle.downcast_definitions.proofs.Entries.{may_stand, AllStand, counted, items_in, contents, contents_of, contents-row, stand-front, stand-rest}
+use Rattle.downcast_definitions.proofs.Entries.{leaf-counts, item-counts, shown-counts}
 use Rattle.downcast_definitions.proofs.Items.{contents-append, boundary-quiet, entry-counts, row-stands}
 use Rattle.ck_base.proofs.Common.{is_below, below, not_below, above}
 use Rattle.downcast_definitions.specs.Among.{by_around, item_in, item_among, is_character}
@@ -76,7 +79,8 @@ pub item-here : (node : ViewNode) (nodes : ViewNodes) (number : ℕ) → number 
 item-here node nodes number h =
     ap (λ t. if t then item_in node number else item_among nodes (number - model_length node)) (below number (model_length node) h)
 
-item-past : (node : ViewNode) (nodes : ViewNodes) (number rest : ℕ) → number ≡ model_length node + rest → item_among (more node nodes) number ≡ item_among nodes rest
+item-past : (node : ViewNode) (nodes : ViewNodes) (number rest : ℕ) → number ≡ model_length node + rest → item_among (more node nodes) number
+    ≡ item_among nodes rest
 item-past node nodes number rest e =
     let less : number - model_length node ≡ rest = omega (arith, e) in
     ap (λ t. if t then item_in node number else item_among nodes (number - model_length node)) (above number (model_length node) (omega (arith, e)))
@@ -102,7 +106,8 @@ text-changed (Some (item (element head children))) scalars others s h = cc
 text-changed (Some (character scalar)) scalars others s h = refl
 text-changed (Some caret) scalars others s h = h
 
-text-grows : (scalar : ℕ) (scalars : List ℕ) (nodes : ViewNodes) (one : Option Content) (number : ℕ) → Stands one → IsItem one (item_among (more (text scalars) nodes) number)
+text-grows : (scalar : ℕ) (scalars : List ℕ) (nodes : ViewNodes) (one : Option Content) (number : ℕ) → Stands one
+    → IsItem one (item_among (more (text scalars) nodes) number)
     → IsItem one (item_among (more (text (scalar ∷ scalars)) nodes) (suc number))
 text-grows scalar scalars nodes one number s h = go (nat_lt number (length scalars)) refl h
   where
@@ -110,7 +115,8 @@ text-grows scalar scalars nodes one number s h = go (nat_lt number (length scala
         → IsItem one (item_among (more (text (scalar ∷ scalars)) nodes) (suc number))
     go true t h =
         let less : number < length scalars = is_below number (length scalars) t in
-        subst (IsItem one) (sym (item-here (text (scalar ∷ scalars)) nodes (suc number) (omega (arith, less)))) (text-changed one scalars (scalar ∷ scalars) s h)
+        subst (IsItem one) (sym (item-here (text (scalar ∷ scalars)) nodes (suc number) (omega (arith, less))))
+        (text-changed one scalars (scalar ∷ scalars) s h)
     go false t h =
         let past : length scalars ≤ number = not_below number (length scalars) t in
         subst (IsItem one) (sym (item-past (text (scalar ∷ scalars)) nodes (suc number) (number - length scalars) (omega (arith, past)))) h
@@ -118,7 +124,8 @@ text-grows scalar scalars nodes one number s h = go (nat_lt number (length scala
 -- ---- among the nodes of pieces
 
 content-item : (content : Content) (rest : List Content) (nodes : List ViewNode) (number : ℕ) → may_stand content ≡ true → AllStand rest
-    → ((place : ℕ) → IsItem (nth_item rest place) (item_among (nodes_of nodes) place)) → IsItem (nth_item (content ∷ rest) number) (item_among (nodes_of (content_before content nodes)) number)
+    → ((place : ℕ) → IsItem (nth_item rest place) (item_among (nodes_of nodes) place))
+    → IsItem (nth_item (content ∷ rest) number) (item_among (nodes_of (content_before content nodes)) number)
 content-item (leaf node) rest nodes number s t h =
     let counts = leaf-counts node s in
     subst (IsItem (nth_item rest number)) (sym (item-past node (nodes_of nodes) number number (omega (arith, counts)))) (h number)
@@ -137,7 +144,8 @@ content-item (character scalar) rest [] (suc number) s t h =
 content-item (character scalar) rest (text scalars ∷ nodes) (suc number) s t h =
     text-grows scalar scalars (nodes_of nodes) (nth_item rest number) number (nth-stands rest number t) (h number)
 content-item (character scalar) rest (element head children ∷ nodes) (suc number) s t h =
-    subst (IsItem (nth_item rest number)) (sym (item-past (text (scalar ∷ [])) (more (element head children) (nodes_of nodes)) (suc number) number (omega arith))) (h number)
+    subst (IsItem (nth_item rest number))
+    (sym (item-past (text (scalar ∷ [])) (more (element head children) (nodes_of nodes)) (suc number) number (omega arith))) (h number)
 content-item caret rest nodes number s t h = h number
 
 abbrev Claim : Pieces → Type 0
@@ -149,7 +157,8 @@ inside-item layer inner pieces h k number s = go (nat_lt number (items_in (conte
     counts : inner_length (nodes_of (shown inner)) ≡ items_in (contents inner)
     counts = shown-counts inner (stand-front (contents inner) (contents pieces) s)
 
-    go : (b : Bool) → nat_lt number (items_in (contents inner)) ≡ b → IsItem (nth_item (contents inner ++ contents pieces) number) (item_among (more (in_layer layer (shown inner)) (nodes_of (shown pieces))) number)
+    go : (b : Bool) → nat_lt number (items_in (contents inner)) ≡ b
+        → IsItem (nth_item (contents inner ++ contents pieces) number) (item_among (more (in_layer layer (shown inner)) (nodes_of (shown pieces))) number)
     go true t =
         let less : number < items_in (contents inner) = is_below number (items_in (contents inner)) t in
         let same : inner_length (nodes_of (shown inner)) ≡ items_in (contents inner) = counts in
@@ -160,7 +169,8 @@ inside-item layer inner pieces h k number s = go (nat_lt number (items_in (conte
     go false t =
         let past : items_in (contents inner) ≤ number = not_below number (items_in (contents inner)) t in
         let same : inner_length (nodes_of (shown inner)) ≡ items_in (contents inner) = counts in
-        both-items _ (nth_item (contents pieces) (number - items_in (contents inner))) _ (item_among (nodes_of (shown pieces)) (number - items_in (contents inner)))
+        both-items _ (nth_item (contents pieces) (number - items_in (contents inner))) _
+        (item_among (nodes_of (shown pieces)) (number - items_in (contents inner)))
         (nth-rest (contents inner) (contents pieces) (number - items_in (contents inner)) number (omega (arith, past)))
         (item-past (in_layer layer (shown inner)) (nodes_of (shown pieces)) number (number - items_in (contents inner)) (omega (arith, past, same)))
         (k (number - items_in (contents inner)) (stand-rest (contents inner) (contents pieces) s))
@@ -171,12 +181,14 @@ mutual
   item-of-piece (wrapped layer inner) pieces rest number s = inside-item layer inner pieces (item-of-pieces inner) rest number s
 
   -- the item of a number among the nodes of pieces is that of its entry
-  pub item-of-pieces : (pieces : Pieces) (number : ℕ) → AllStand (contents pieces) → IsItem (nth_item (contents pieces) number) (item_among (nodes_of (shown pieces)) number)
+  pub item-of-pieces : (pieces : Pieces) (number : ℕ) → AllStand (contents pieces)
+      → IsItem (nth_item (contents pieces) number) (item_among (nodes_of (shown pieces)) number)
   item-of-pieces nothing number s = refl
   item-of-pieces (first piece pieces) number s = item-of-piece piece pieces (item-of-pieces pieces) number s
 
 -- and among the nodes of a row
-item-of-row : (row : List Entry) (number : ℕ) → AllStand (contents_of row) → IsItem (nth_item (contents_of row) number) (item_among (nodes_of (nest row)) number)
+item-of-row : (row : List Entry) (number : ℕ) → AllStand (contents_of row)
+    → IsItem (nth_item (contents_of row) number) (item_among (nodes_of (nest row)) number)
 item-of-row row number s =
     subst (λ all. IsItem (nth_item all number) (item_among (nodes_of (nest row)) number)) (contents-row row)
     (item-of-pieces (pieces_of row) number (subst AllStand (sym (contents-row row)) s))
@@ -225,8 +237,10 @@ row-items scene parent path (next ∷ list) from before (suc index) at e =
     ∙ ap (λ n. option_map (λ of. (entry_of scene parent (path ++ at ∷ []) n of).content) (slice_get list index)) (omega arith)
 
 -- what is found at an index is the item there
-pub item-there : (scene : Scene) (parent path : List ℕ) (list : List Item) (index : ℕ) (of : Option Item) → HaveShapes scene.conversion parent 0 (items_of list) → slice_get list index ≡ of
-    → IsItem (option_map (λ next. (entry_of scene parent (path ++ index ∷ []) (elements_before list index) next).content) of) (item_among (nodes_of (nest (row_of scene parent path list))) index)
+pub item-there : (scene : Scene) (parent path : List ℕ) (list : List Item) (index : ℕ) (of : Option Item)
+    → HaveShapes scene.conversion parent 0 (items_of list) → slice_get list index ≡ of
+    → IsItem (option_map (λ next. (entry_of scene parent (path ++ index ∷ []) (elements_before list index) next).content) of)
+    (item_among (nodes_of (nest (row_of scene parent path list))) index)
 item-there scene parent path list index of s e =
     let z : 0 + elements_before list index ≡ elements_before list index = omega arith in
     subst (λ content. IsItem content (item_among (nodes_of (nest (row_of scene parent path list))) index))
@@ -237,9 +251,12 @@ item-there scene parent path list index of s e =
 pub item-element : (scene : Scene) (parent path : List ℕ) (list : List Item) (index id : ℕ) (name : List ℕ) (attributes : items.Attributes) (children : Items)
     → HaveShapes scene.conversion parent 0 (items_of list) → slice_get list index ≡ Some (items.element id name attributes children)
     → item_among (nodes_of (nest (row_of scene parent path list))) index
-    ≡ Some (element_node (scene.numbers id) (shape_at scene.conversion parent (elements_before list index) name attributes) (inner_row scene name (path ++ index ∷ []) 0 0 children))
-item-element scene parent path list index id name attributes children s e = item-there scene parent path list index (Some (items.element id name attributes children)) s e
+    ≡ Some (element_node (scene.numbers id) (shape_at scene.conversion parent (elements_before list index) name attributes)
+    (inner_row scene name (path ++ index ∷ []) 0 0 children))
+item-element scene parent path list index id name attributes children s e = item-there scene parent path list index
+    (Some (items.element id name attributes children)) s e
 
-pub item-none : (scene : Scene) (parent path : List ℕ) (list : List Item) (index : ℕ) → HaveShapes scene.conversion parent 0 (items_of list) → slice_get list index ≡ None
+pub item-none : (scene : Scene) (parent path : List ℕ) (list : List Item) (index : ℕ) → HaveShapes scene.conversion parent 0 (items_of list)
+    → slice_get list index ≡ None
     → item_among (nodes_of (nest (row_of scene parent path list))) index ≡ None
 item-none scene parent path list index s e = item-there scene parent path list index None s e

@@ -1,5 +1,6 @@
 -- Where no caret stands, a position is seen by the rule.
-use Rattle.std.proofs.Common.{◌≡◌, ℕ, zero, suc, ◌+◌, ◌≤◌, List, [], ◌∷◌, ◌++◌, length, Bool, true, false, Some, refl, sym, ap, ◌∙◌, subst, append_assoc, length-append, arith}
+use Rattle.std.proofs.Common.{◌≡◌, ℕ, zero, suc, ◌+◌, ◌≤◌, List, [], ◌∷◌, ◌++◌, length, Bool, true, false, Some, refl, sym, ap, ◌∙◌, subst, append_assoc}
+use Rattle.std.proofs.Common.{length-append, arith}
 use Rattle.std.proofs.lemmas.List.{length-map}
 use Rattle.std.proofs.lemmas.Option.{slice_get_within}
 use Rattle.std.specs.Prelude.{slice_get, if◌then◌else◌}
@@ -16,7 +17,8 @@ use Rattle.downcast_definitions.specs.Meant.{meant_in}
 use Rattle.downcast_definitions.specs.Seen.{entries_before, place_of, boundary_place, mark_at, character_before, character_layers_at}
 use Rattle.downcast_definitions.specs.Shown.{HaveShapes}
 use Rattle.downcast_definitions.specs.Among.{place_among, item_among, gap_among, is_character, before_item, seen_among}
-use Rattle.downcast_definitions.specs.Rule.{content_nodes, item_before, IsNoCharacter, IsCharacterAt, IsBehindCharacter, IsBeforeCharacter, text_before, text_behind, kind_at, kind_of, caret_number}
+use Rattle.downcast_definitions.specs.Rule.{content_nodes, item_before, IsNoCharacter, IsCharacterAt, IsBehindCharacter, IsBeforeCharacter, text_before}
+use Rattle.downcast_definitions.specs.Rule.{text_behind, kind_at, kind_of, caret_number}
 use Rattle.downcast_definitions.proofs.Marks.{between-nest}
 use Rattle.downcast_definitions.proofs.Entries.{AllStand, contents_of, contents-row, get-rest}
 use Rattle.downcast_definitions.proofs.Items.{contents-append, around, boundary-caret, row-stands}
@@ -26,19 +28,22 @@ use Rattle.downcast_definitions.proofs.Found.{boundary-shown, no-character}
 use Rattle.downcast_definitions.proofs.Characters.{Placed, placed, scalar-there}
 
 -- the character that is placed
-at-place : (nodes : List ViewNode) (offset scalar : ℕ) (p : Placed (nodes_of nodes) 0 0 offset scalar) (index : ℕ) → p.index ≡ index → IsCharacterAt nodes offset scalar (p.at ∷ p.front) index
+at-place : (nodes : List ViewNode) (offset scalar : ℕ) (p : Placed (nodes_of nodes) 0 0 offset scalar) (index : ℕ) → p.index ≡ index
+    → IsCharacterAt nodes offset scalar (p.at ∷ p.front) index
 at-place nodes offset scalar p index e = record {
   scalars = p.scalars;
   there = ap (node_at (p.at ∷ p.front)) (sym (list_of-nodes_of nodes)) ∙ p.there;
   is = ap (slice_get p.scalars) (sym e) ∙ p.is;
-  means = λ inners. subst (λ n. meant_in inners 0 (nodes_of nodes) (p.at ∷ (p.front ++ n ∷ [])) ≡ Some (offset ∷ [])) e (p.means inners ∙ ap (λ n. Some (n ∷ [])) (omega arith));
+  means = λ inners. subst (λ n. meant_in inners 0 (nodes_of nodes) (p.at ∷ (p.front ++ n ∷ [])) ≡ Some (offset ∷ [])) e (p.means inners
+      ∙ ap (λ n. Some (n ∷ [])) (omega arith));
 }
 
 module _ (scene : Scene) (parent path : List ℕ) (list : List Item) (s : HaveShapes scene.conversion parent 0 (items_of list)) where
   abbrev nodes : List ViewNode
   nodes = content_nodes scene parent path list
 
-  pub behind-character : (offset scalar : ℕ) (attributes : Attributes) → has_caret scene.caret (path ++ suc offset ∷ []) ≡ false → slice_get list offset ≡ Some (items.character scalar attributes)
+  pub behind-character : (offset scalar : ℕ) (attributes : Attributes) → has_caret scene.caret (path ++ suc offset ∷ []) ≡ false → slice_get list offset
+      ≡ Some (items.character scalar attributes)
       → IsBehindCharacter (content_nodes scene parent path list) offset scalar (boundary_place scene parent path list (suc offset))
   behind-character offset scalar attributes has e =
       let p = placed (nodes_of nodes) 0 0 offset scalar (scalar-there scene parent path list offset scalar attributes s e) in
@@ -68,7 +73,8 @@ module _ (scene : Scene) (parent path : List ℕ) (list : List Item) (s : HaveSh
   first-of-text offset (suc less) n earlier =
       let there = earlier less refl in
       let none_there : IsNoCharacter (slice_get list there.0) = subst (λ m. IsNoCharacter (item_before list m)) there.1 n in
-      let not_one : is_character (item_among (nodes_of nodes) there.0) ≡ false = no-character scene parent path list there.0 (slice_get list there.0) s refl none_there in
+      let not_one : is_character (item_among (nodes_of nodes) there.0) ≡ false = no-character scene parent path list there.0 (slice_get list there.0) s
+      refl none_there in
       let one : is_character (item_among (nodes_of nodes) there.0) ≡ true = there.2 in
       absurd (both (is_character (item_among (nodes_of nodes) there.0)) one not_one)
     where
@@ -76,8 +82,10 @@ module _ (scene : Scene) (parent path : List ℕ) (list : List Item) (s : HaveSh
       both true e f = cc
       both false e f = cc
 
-  pub before-character : (offset scalar : ℕ) (attributes : Attributes) → has_caret scene.caret (path ++ offset ∷ []) ≡ false → IsNoCharacter (item_before list offset)
-      → slice_get list offset ≡ Some (items.character scalar attributes) → IsBeforeCharacter (content_nodes scene parent path list) offset scalar (boundary_place scene parent path list offset)
+  pub before-character : (offset scalar : ℕ) (attributes : Attributes) → has_caret scene.caret (path ++ offset ∷ []) ≡ false
+      → IsNoCharacter (item_before list offset)
+      → slice_get list offset ≡ Some (items.character scalar attributes)
+      → IsBeforeCharacter (content_nodes scene parent path list) offset scalar (boundary_place scene parent path list offset)
   before-character offset scalar attributes has n e =
       let p = placed (nodes_of nodes) 0 0 offset scalar (scalar-there scene parent path list offset scalar attributes s e) in
       let within = slice_get_within list offset (items.character scalar attributes) e in
@@ -93,12 +101,14 @@ module _ (scene : Scene) (parent path : List ℕ) (list : List Item) (s : HaveSh
             ∙ p.here ∙ (λ i. z i ∷ (p.front ++ start i ∷ []));
       }
 
-  pub between-items : (offset : ℕ) → offset ≤ length list → has_caret scene.caret (path ++ offset ∷ []) ≡ false → IsNoCharacter (item_before list offset) → IsNoCharacter (slice_get list offset)
+  pub between-items : (offset : ℕ) → offset ≤ length list → has_caret scene.caret (path ++ offset ∷ []) ≡ false
+      → IsNoCharacter (item_before list offset) → IsNoCharacter (slice_get list offset)
       → boundary_place scene parent path list offset ≡ gap_among (nodes_of (content_nodes scene parent path list)) offset 0
   between-items offset h has n m =
       sym (boundary-shown scene parent path list offset s h has)
       ∙ by-item-behind offset n
-      ∙ ap (λ b. if b then place_among 0 (nodes_of nodes) offset 0 else gap_among (nodes_of nodes) offset 0) (no-character scene parent path list offset (slice_get list offset) s refl m)
+      ∙ ap (λ b. if b then place_among 0 (nodes_of nodes) offset 0 else gap_among (nodes_of nodes) offset 0)
+      (no-character scene parent path list offset (slice_get list offset) s refl m)
 
 -- the mark that finds a place leaves the nodes as they are
 pub mark-is-no-node : (row : List Entry) (start end : ℕ) (caret_here : Bool) → nest (mark_at row start end caret_here).row ≡ nest row
@@ -120,16 +130,19 @@ caret-there scene parent path list offset h has =
     let all : contents_of (row_of scene parent path list) ≡ contents_of a.front ++ (last.leaves ++ (caret ∷ contents_of a.behind)) =
     (ap contents_of a.row_is
     ∙ contents-append a.front (here ++ a.behind)
-    ∙ ap (λ cs. contents_of a.front ++ cs) (contents-append here a.behind ∙ ap (λ cs. cs ++ contents_of a.behind) last.is ∙ append_assoc leaves (caret ∷ []) (contents_of a.behind))) in
+    ∙ ap (λ cs. contents_of a.front ++ cs) (contents-append here a.behind ∙ ap (λ cs. cs ++ contents_of a.behind) last.is
+    ∙ append_assoc leaves (caret ∷ []) (contents_of a.behind))) in
     let place : caret_number scene path offset ≡ length (contents_of a.front) + length last.leaves = omega (arith, start, long, front) in
     ap (λ cs. slice_get cs (caret_number scene path offset)) all
     ∙ get-rest (contents_of a.front) (leaves ++ (caret ∷ contents_of a.behind)) (length leaves) (caret_number scene path offset) place
     ∙ get-rest leaves (caret ∷ contents_of a.behind) 0 (length leaves) (omega arith)
 
 -- the caret is seen by what stands directly before and behind it in its list
-pub caret-kind : (scene : Scene) (parent path : List ℕ) (list : List Item) (offset : ℕ) → HaveShapes scene.conversion parent 0 (items_of list) → offset ≤ length list → has_caret scene.caret (path ++ offset ∷ []) ≡ true
+pub caret-kind : (scene : Scene) (parent path : List ℕ) (list : List Item) (offset : ℕ) → HaveShapes scene.conversion parent 0 (items_of list)
+    → offset ≤ length list → has_caret scene.caret (path ++ offset ∷ []) ≡ true
     → kind_at (nodes_of (content_nodes scene parent path list)) (boundary_place scene parent path list offset)
-    ≡ kind_of (text_before false (pieces_of (row_of scene parent path list)) (caret_number scene path offset)) (text_behind (pieces_of (row_of scene parent path list)) (caret_number scene path offset))
+    ≡ kind_of (text_before false (pieces_of (row_of scene parent path list)) (caret_number scene path offset))
+    (text_behind (pieces_of (row_of scene parent path list)) (caret_number scene path offset))
 caret-kind scene parent path list offset s h has =
     let row = row_of scene parent path list in
     let start = entries_before scene path offset in

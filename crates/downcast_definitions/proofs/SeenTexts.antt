@@ -15,7 +15,8 @@ use Rattle.downcast_definitions.specs.Rule.{text_before, text_behind}
 use Rattle.downcast_definitions.proofs.TextPlaces.{Full, text-placed}
 
 -- behind a character a boundary is seen in its text
-pub seen-behind : (inners : Inners) (nodes : ViewNodes) (place : List ℕ) (number : ℕ) → Full nodes → kind_at nodes place ≡ Some true → meant_in inners 0 nodes place ≡ Some (number ∷ [])
+pub seen-behind : (inners : Inners) (nodes : ViewNodes) (place : List ℕ) (number : ℕ) → Full nodes → kind_at nodes place ≡ Some true
+    → meant_in inners 0 nodes place ≡ Some (number ∷ [])
     → seen_among nodes number 0 ≡ place
 seen-behind inners none [] number full k e = cc
 seen-behind inners (more node nodes) [] number full k e = cc
@@ -29,7 +30,8 @@ seen-behind inners nodes (index ∷ rest) number full k e =
     ∙ p.place ∙ ap (λ n. n ∷ rest) z
 
 -- else before a character at the start of its text
-pub seen-before : (inners : Inners) (nodes : ViewNodes) (place : List ℕ) (number : ℕ) → Full nodes → kind_at nodes place ≡ Some false → meant_in inners 0 nodes place ≡ Some (number ∷ [])
+pub seen-before : (inners : Inners) (nodes : ViewNodes) (place : List ℕ) (number : ℕ) → Full nodes → kind_at nodes place ≡ Some false
+    → meant_in inners 0 nodes place ≡ Some (number ∷ [])
     → ((before : ℕ) → number ≡ suc before → is_character (item_among nodes before) ≡ false) → seen_among nodes number 0 ≡ place
 seen-before inners none [] number full k e n = cc
 seen-before inners (more node nodes) [] number full k e n = cc
@@ -49,9 +51,11 @@ seen-before inners nodes (index ∷ rest) number full k e n =
     first-case (suc m) h = ap (λ b. if b then place_among 1 nodes m 0 else before_item nodes (suc m) 0) (h m refl)
 
 -- the kind of the place of a mark in a row that nests to the same nodes with the mark and without it
-pub marked-kind : (row : List Entry) (number : ℕ) (layers : List Layer) → AllStand (contents_of (marked row number layers).row) → slice_get (contents_of (marked row number layers).row) number ≡ Some caret
+pub marked-kind : (row : List Entry) (number : ℕ) (layers : List Layer) → AllStand (contents_of (marked row number layers).row)
+    → slice_get (contents_of (marked row number layers).row) number ≡ Some caret
     → nest (marked row number layers).row ≡ nest row
-    → kind_at (nodes_of (nest row)) (place_of as_place (marked row number layers)) ≡ kind_of (text_before false (pieces_of (marked row number layers).row) number) (text_behind (pieces_of (marked row number layers).row) number)
+    → kind_at (nodes_of (nest row)) (place_of as_place (marked row number layers))
+    ≡ kind_of (text_before false (pieces_of (marked row number layers).row) number) (text_behind (pieces_of (marked row number layers).row) number)
 marked-kind row number layers s e n =
     ap (λ nodes. kind_at (nodes_of nodes) (place_of as_place (marked row number layers))) (sym n)
     ∙ mark-kind (pieces_of (marked row number layers).row) number (subst AllStand (sym (contents-row (marked row number layers).row)) s)

@@ -20,7 +20,8 @@ use Rattle.downcast_definitions.proofs.Gaps.{mark-gap}
 use Rattle.downcast_definitions.proofs.Fits.{Between, row-fits, row-clear}
 
 -- behind a character
-pub shown-behind : (row : List Entry) (start items : ℕ) (layers : List Layer) → AllStand (contents_of row) → start ≤ length row → items_in (take start (contents_of row)) ≡ items
+pub shown-behind : (row : List Entry) (start items : ℕ) (layers : List Layer) → AllStand (contents_of row) → start ≤ length row
+    → items_in (take start (contents_of row)) ≡ items
     → character_before row start ≡ Some layers → seen_among (nodes_of (nest row)) items 0 ≡ place_of as_place (marked row start layers)
 shown-behind row zero items layers s h i e = cc
 shown-behind row (suc start) items layers s h i e =
@@ -31,8 +32,10 @@ shown-behind row (suc start) items layers s h i e =
     (marked-means [] row (suc start) layers s h kept ∙ ap (λ n. Some (n ∷ [])) i)
 
 -- else before a character
-pub shown-before : (row : List Entry) (end items : ℕ) (layers : List Layer) → AllStand (contents_of row) → end ≤ length row → items_in (take end (contents_of row)) ≡ items
-    → character_layers_at row end ≡ Some layers → NodeBefore row end → ((one_less : ℕ) → items ≡ suc one_less → is_character (item_among (nodes_of (nest row)) one_less) ≡ false)
+pub shown-before : (row : List Entry) (end items : ℕ) (layers : List Layer) → AllStand (contents_of row) → end ≤ length row
+    → items_in (take end (contents_of row)) ≡ items
+    → character_layers_at row end ≡ Some layers → NodeBefore row end
+    → ((one_less : ℕ) → items ≡ suc one_less → is_character (item_among (nodes_of (nest row)) one_less) ≡ false)
     → seen_among (nodes_of (nest row)) items 0 ≡ place_of as_place (marked row end layers)
 shown-before row end items layers s h i e n c =
     let kept = mark-before-nest row end layers e in
@@ -41,10 +44,12 @@ shown-before row end items layers s h i e n c =
     ∙ (λ j. kind_of (mark-apart row end layers n j) (row-before row end layers e j)))
     (marked-means [] row end layers s h kept ∙ ap (λ n. Some (n ∷ [])) i) c
 
-no-character-before : (row : List Entry) (number items : ℕ) → ((one_less : ℕ) → items ≡ suc one_less → is_character (item_among (nodes_of (nest row)) one_less) ≡ false)
+no-character-before : (row : List Entry) (number items : ℕ)
+    → ((one_less : ℕ) → items ≡ suc one_less → is_character (item_among (nodes_of (nest row)) one_less) ≡ false)
     → seen_among (nodes_of (nest row)) items 0 ≡ before_item (nodes_of (nest row)) items 0
 no-character-before row number zero c = refl
-no-character-before row number (suc items) c = ap (λ b. if b then place_among 1 (nodes_of (nest row)) items 0 else before_item (nodes_of (nest row)) (suc items) 0) (c items refl)
+no-character-before row number (suc items) c = ap (λ b. if b then place_among 1 (nodes_of (nest row)) items 0
+    else before_item (nodes_of (nest row)) (suc items) 0) (c items refl)
 
 -- else between the nodes
 pub shown-between : (row : List Entry) (end items : ℕ) → AllStand (contents_of row) → end ≤ length row → items_in (take end (contents_of row)) ≡ items
@@ -59,4 +64,5 @@ shown-between row end items s h i n b c o =
     ∙ sym (mark-gap pieces end (subst AllStand (sym (contents-row (marked row end layers).row)) (marked-stand row end layers s))
     (ap (λ cs. slice_get cs end) (contents-row (marked row end layers).row) ∙ marked-get row end layers h)
     (row-fits row end b) (mark-apart row end layers n) (row-clear row end b)
-    ∙ (λ j. gap_among (nodes_of (mark-between-nest row end j)) ((ap (λ cs. items_in (take end cs)) (contents-row (marked row end layers).row) ∙ ap items_in (marked-take row end layers h) ∙ i) j) 0))
+    ∙ (λ j. gap_among (nodes_of (mark-between-nest row end j))
+    ((ap (λ cs. items_in (take end cs)) (contents-row (marked row end layers).row) ∙ ap items_in (marked-take row end layers h) ∙ i) j) 0))

@@ -14,18 +14,21 @@ based base index place =
     ∙ ap (λ n. Some (n ∷ place)) (omega arith)
 
 -- a place that went into a slot comes out of it
-pub out-of-into : (base : ℕ) (rest : List ℕ) (index : ℕ) (place : List ℕ) → out_of_slot (base ∷ rest) (into_slot (base ∷ rest) (index ∷ place)) ≡ Some (index ∷ place)
+pub out-of-into : (base : ℕ) (rest : List ℕ) (index : ℕ) (place : List ℕ) → out_of_slot (base ∷ rest) (into_slot (base ∷ rest) (index ∷ place))
+    ≡ Some (index ∷ place)
 out-of-into base [] index place = based base index place
 out-of-into base (next ∷ rest) index place =
     ap (λ b. if b then out_of_slot (next ∷ rest) (into_slot (next ∷ rest) (index ∷ place)) else None) (eq-eqb base base refl)
     ∙ out-of-into next rest index place
 
 -- it isn't the empty one there
-pub into-some : (base : ℕ) (rest : List ℕ) (index : ℕ) (place : List ℕ) (P : List ℕ → Type 0) → ((first : ℕ) (others : List ℕ) → P (first ∷ others)) → P (into_slot (base ∷ rest) (index ∷ place))
+pub into-some : (base : ℕ) (rest : List ℕ) (index : ℕ) (place : List ℕ) (P : List ℕ → Type 0) → ((first : ℕ) (others : List ℕ) → P (first ∷ others))
+    → P (into_slot (base ∷ rest) (index ∷ place))
 into-some base [] index place P h = h _ _
 into-some base (next ∷ rest) index place P h = h _ _
 
-slot-first : {A : Type 0} → (index : ℕ) (forms : Forms A) (there : Option (List ℕ)) → slot_among (index + 1) forms ≢ Some [] → option_or (option_map (λ place. index ∷ place) there) (slot_among (index + 1) forms) ≢ Some []
+slot-first : {A : Type 0} → (index : ℕ) (forms : Forms A) (there : Option (List ℕ)) → slot_among (index + 1) forms ≢ Some []
+    → option_or (option_map (λ place. index ∷ place) there) (slot_among (index + 1) forms) ≢ Some []
 slot-first index forms None h = h
 slot-first index forms (Some place) h = λ e. cc
 

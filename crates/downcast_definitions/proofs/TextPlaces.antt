@@ -3,7 +3,8 @@ use Rattle.std.proofs.Common.{◌≡◌, ℕ, zero, suc, ◌+◌, ◌-◌, ◌<�
 use Rattle.std.proofs.lemmas.Bool.Decides.{nat_tests}
 use Rattle.std.specs.Prelude.{nat_lt, nat_le, if◌then◌else◌}
 use Rattle.view_definitions.specs.Node.{Kind, container, attribute, empty, ui, Head, ViewNode, ViewNodes, text, element, none, more, nodes_of}
-use Rattle.view_definitions.specs.Row.{Content, leaf, item, character, caret, Entry, Piece, Pieces, nothing, first, bare, wrapped, pieces_of, character_before, content_before, shown, nest, is_leaf_kind, is_item_kind}
+use Rattle.view_definitions.specs.Row.{Content, leaf, item, character, caret, Entry, Piece, Pieces, nothing, first, bare, wrapped, pieces_of, character_before}
+use Rattle.view_definitions.specs.Row.{content_before, shown, nest, is_leaf_kind, is_item_kind}
 use Rattle.downcast_definitions.specs.Meant.{length_by_kind, model_length, inner_length, Inners, in_text, in_item, by_kind, meant_in, meant_in_node}
 use Rattle.downcast_definitions.proofs.Entries.{may_stand, AllStand, contents, contents_of, contents-row, stand-front, stand-rest, piece_contents}
 use Rattle.ck_base.proofs.Common.{below, above}
@@ -58,7 +59,8 @@ full-content (character scalar) nodes e h = full-character scalar nodes h
 full-content caret nodes e h = h
 
 mutual
-  full-piece : (piece : Piece) (pieces : Pieces) → Full (nodes_of (shown pieces)) → AllStand (contents (first piece pieces)) → Full (nodes_of (shown (first piece pieces)))
+  full-piece : (piece : Piece) (pieces : Pieces) → Full (nodes_of (shown pieces)) → AllStand (contents (first piece pieces))
+      → Full (nodes_of (shown (first piece pieces)))
   full-piece (bare content) pieces h s = full-content content (shown pieces) s.0 h
   full-piece (wrapped layer inner) pieces h s = (full-shown inner (stand-front (contents inner) (contents pieces) s), h)
 
@@ -95,20 +97,25 @@ nowhere empty children e = cc
 nowhere ui children e = cc
 
 module _ (inners : Inners) where
-  first-placed : (node : ViewNode) (nodes : ViewNodes) (offset base number : ℕ) (rest : List ℕ) (meant : ℕ) (behind : Bool) → meant ≡ offset + number + further_of behind → number < model_length node
-      → place_in (further_of behind) node number ≡ rest → is_character (item_in node number) ≡ true → TextPlaced (more node nodes) offset base 0 rest meant behind
+  first-placed : (node : ViewNode) (nodes : ViewNodes) (offset base number : ℕ) (rest : List ℕ) (meant : ℕ) (behind : Bool)
+      → meant ≡ offset + number + further_of behind → number < model_length node
+      → place_in (further_of behind) node number ≡ rest → is_character (item_in node number) ≡ true
+      → TextPlaced (more node nodes) offset base 0 rest meant behind
   first-placed node nodes offset base number rest meant behind e b p c = record {
     number = number;
     is = e;
     below = omega (arith, b);
     place =
-        ap (λ t. if t then base ∷ place_in (further_of behind) node number else place_among (further_of behind) nodes (number - model_length node) (base + 1)) (below number (model_length node) b)
+        ap (λ t. if t then base ∷ place_in (further_of behind) node number
+        else place_among (further_of behind) nodes (number - model_length node) (base + 1)) (below number (model_length node) b)
         ∙ (let z : base ≡ base + 0 = omega arith in λ i. z i ∷ p i);
     one = ap (λ t. is_character (if t then item_in node number else item_among nodes (number - model_length node))) (below number (model_length node) b) ∙ c;
   }
 
-  text-behind : (scalars : List ℕ) (nodes : ViewNodes) (offset base last meant : ℕ) (behind : Bool) → HasScalars scalars → nat_lt 0 last ≡ behind → (inside : Bool) → nat_le last (length scalars) ≡ inside
-      → (if inside then Some ((offset + last) ∷ []) else None) ≡ Some (meant ∷ []) → TextPlaced (more (text scalars) nodes) offset base 0 (last ∷ []) meant behind
+  text-behind : (scalars : List ℕ) (nodes : ViewNodes) (offset base last meant : ℕ) (behind : Bool) → HasScalars scalars → nat_lt 0 last ≡ behind
+      → (inside : Bool) → nat_le last (length scalars) ≡ inside
+      → (if inside then Some ((offset + last) ∷ []) else None) ≡ Some (meant ∷ [])
+      → TextPlaced (more (text scalars) nodes) offset base 0 (last ∷ []) meant behind
   text-behind scalars nodes offset base last meant behind full b false i e = cc
   text-behind [] nodes offset base last meant behind full b true i e = absurd full
   text-behind (scalar ∷ scalars) nodes offset base zero meant false full b true i e =
@@ -119,36 +126,42 @@ module _ (inners : Inners) where
       let m : offset + suc last ≡ meant = cc in
       let w : suc last ≤ length (scalar ∷ scalars) = is_within (suc last) (length (scalar ∷ scalars)) i in
       let l : last + 1 ≡ suc last = omega arith in
-      first-placed (text (scalar ∷ scalars)) nodes offset base last (suc last ∷ []) meant true (sym m ∙ omega arith) (omega (arith, w)) (ap (λ n. n ∷ []) l) refl
+      first-placed (text (scalar ∷ scalars)) nodes offset base last (suc last ∷ []) meant true (sym m ∙ omega arith) (omega (arith, w))
+      (ap (λ n. n ∷ []) l) refl
   text-behind (scalar ∷ scalars) nodes offset base (suc last) meant false full b true i e = absurd (never last b)
     where
       never : (n : ℕ) → nat_lt 0 (suc n) ≡ false → ⊥
       never n h = grind (arith, nat_tests)
 
-  in_one_text : (scalars : List ℕ) (nodes : ViewNodes) (offset base : ℕ) (place : List ℕ) (meant : ℕ) (behind : Bool) → HasScalars scalars → kind_in (text scalars) place ≡ Some behind
+  in_one_text : (scalars : List ℕ) (nodes : ViewNodes) (offset base : ℕ) (place : List ℕ) (meant : ℕ) (behind : Bool) → HasScalars scalars
+      → kind_in (text scalars) place ≡ Some behind
       → in_text offset (length scalars) place ≡ Some (meant ∷ []) → TextPlaced (more (text scalars) nodes) offset base 0 place meant behind
   in_one_text scalars nodes offset base [] meant behind full k e = cc
   in_one_text scalars nodes offset base (last ∷ []) meant behind full k e =
       text-behind scalars nodes offset base last meant behind full (let f : Some (nat_lt 0 last) ≡ Some behind = k in cc) (nat_le last (length scalars)) refl e
   in_one_text scalars nodes offset base (index ∷ next ∷ rest) meant behind full k e = cc
 
-  in_kind : (head : Head) (kind : Kind) → head.kind ≡ kind → (children nodes : ViewNodes) (offset base : ℕ) (start : ℕ) (rest : List ℕ) (meant : ℕ) (behind : Bool)
+  in_kind : (head : Head) (kind : Kind) → head.kind ≡ kind
+      → (children nodes : ViewNodes) (offset base : ℕ) (start : ℕ) (rest : List ℕ) (meant : ℕ) (behind : Bool)
       → AroundFull kind (Full children) → by_around kind (kind_at children (start ∷ rest)) None ≡ Some behind
       → by_kind kind (meant_in inners offset children (start ∷ rest)) (in_item inners offset (start ∷ rest)) ≡ Some (meant ∷ [])
-      → (Full children → kind_at children (start ∷ rest) ≡ Some behind → meant_in inners offset children (start ∷ rest) ≡ Some (meant ∷ []) → TextPlaced children offset 0 start rest meant behind)
+      → (Full children → kind_at children (start ∷ rest) ≡ Some behind → meant_in inners offset children (start ∷ rest) ≡ Some (meant ∷ [])
+      → TextPlaced children offset 0 start rest meant behind)
       → TextPlaced (more (element head children) nodes) offset base 0 (start ∷ rest) meant behind
   in_kind head container k children nodes offset base start rest meant behind full f e ih = cc
   in_kind head (attribute priority id) k children nodes offset base start rest meant behind full f e ih =
       let p = ih full f e in
       let z : 0 + start ≡ start = omega arith in
-      first-placed (element head children) nodes offset base p.number (start ∷ rest) meant behind p.is (subst (λ kind. p.number < length_by_kind kind (inner_length children)) (sym k) p.below)
+      first-placed (element head children) nodes offset base p.number (start ∷ rest) meant behind p.is
+      (subst (λ kind. p.number < length_by_kind kind (inner_length children)) (sym k) p.below)
       (ap (λ kind. by_around kind (place_among (further_of behind) children p.number 0) []) k ∙ p.place ∙ ap (λ n. n ∷ rest) z)
       (ap (λ kind. is_character (by_around kind (item_among children p.number) (Some (element head children)))) k ∙ p.one)
   in_kind head empty k children nodes offset base start rest meant behind full f e ih = cc
   in_kind head ui k children nodes offset base start rest meant behind full f e ih = cc
 
   mutual
-    in_node : (node : ViewNode) (nodes : ViewNodes) (offset base : ℕ) (start : ℕ) (rest : List ℕ) (meant : ℕ) (behind : Bool) → FullNode node → kind_in node (start ∷ rest) ≡ Some behind
+    in_node : (node : ViewNode) (nodes : ViewNodes) (offset base : ℕ) (start : ℕ) (rest : List ℕ) (meant : ℕ) (behind : Bool) → FullNode node
+        → kind_in node (start ∷ rest) ≡ Some behind
         → meant_in_node inners offset node (start ∷ rest) ≡ Some (meant ∷ []) → TextPlaced (more node nodes) offset base 0 (start ∷ rest) meant behind
     in_node (text scalars) nodes offset base start rest meant behind full k e = in_one_text scalars nodes offset base (start ∷ rest) meant behind full k e
     in_node (element head children) nodes offset base start rest meant behind full k e =
@@ -156,7 +169,8 @@ module _ (inners : Inners) where
         (λ full k e. text-placed children offset 0 start rest meant behind full k e)
 
     -- the character before a place in a text, or behind the text's start
-    pub text-placed : (nodes : ViewNodes) (offset base index : ℕ) (rest : List ℕ) (meant : ℕ) (behind : Bool) → Full nodes → kind_at nodes (index ∷ rest) ≡ Some behind
+    pub text-placed : (nodes : ViewNodes) (offset base index : ℕ) (rest : List ℕ) (meant : ℕ) (behind : Bool) → Full nodes
+        → kind_at nodes (index ∷ rest) ≡ Some behind
         → meant_in inners offset nodes (index ∷ rest) ≡ Some (meant ∷ []) → TextPlaced nodes offset base index rest meant behind
     text-placed none offset base index rest meant behind full k e = cc
     text-placed (more (text scalars) nodes) offset base zero [] meant behind full k e = cc
@@ -174,12 +188,14 @@ module _ (inners : Inners) where
           is = is ∙ omega arith;
           below = omega (arith, below);
           place =
-              ap (λ t. if t then base ∷ place_in (further_of behind) node (model_length node + p.number) else place_among (further_of behind) nodes (model_length node + p.number - model_length node) (base + 1)) past
+              ap (λ t. if t then base ∷ place_in (further_of behind) node (model_length node + p.number)
+              else place_among (further_of behind) nodes (model_length node + p.number - model_length node) (base + 1)) past
               ∙ ap (λ n. place_among (further_of behind) nodes n (base + 1)) less
               ∙ p.place
               ∙ ap (λ n. n ∷ rest) far;
           one =
-              ap (λ t. is_character (if t then item_in node (model_length node + p.number) else item_among nodes (model_length node + p.number - model_length node))) past
+              ap (λ t. is_character (if t then item_in node (model_length node + p.number)
+              else item_among nodes (model_length node + p.number - model_length node))) past
               ∙ ap (λ n. is_character (item_among nodes n)) less
               ∙ p.one;
         }

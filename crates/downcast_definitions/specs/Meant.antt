@@ -1,5 +1,6 @@
 -- The position of the document that a place of the view means. (After `Mapper.toModelPosition` and `getModelLength` of CKEditor 5.)
-use Rattle.std.specs.Prelude.{ℕ, ◌+◌, ◌-◌, ◌==◌, zero, suc, nat_le, List, [], ◌∷◌, ◌++◌, length, Option, Some, None, option_map, option_and_then, slice_get, if◌then◌else◌, codes}
+use Rattle.std.specs.Prelude.{ℕ, ◌+◌, ◌-◌, ◌==◌, zero, suc, nat_le, List, [], ◌∷◌, ◌++◌, length, Option, Some, None, option_map, option_and_then, slice_get}
+use Rattle.std.specs.Prelude.{if◌then◌else◌, codes}
 use Rattle.item_definitions.specs.Item.{Item, Items, items_of}
 use Rattle.item_definitions.specs.Item as items
 use Rattle.document_definitions.specs.Document.{Document}

@@ -1,6 +1,7 @@
 -- The rule by which positions are seen, in its words: what stands before and behind a boundary, in what text its place is, and whether the place is
 -- behind a character of it.
-use Rattle.std.specs.Prelude.{◌≡◌, ℕ, ◌+◌, ◌-◌, zero, suc, nat_lt, List, [], ◌∷◌, ◌++◌, length, Bool, true, false, Option, Some, None, option_map, slice_get, if◌then◌else◌, codes}
+use Rattle.std.specs.Prelude.{◌≡◌, ℕ, ◌+◌, ◌-◌, zero, suc, nat_lt, List, [], ◌∷◌, ◌++◌, length, Bool, true, false, Option, Some, None, option_map, slice_get}
+use Rattle.std.specs.Prelude.{if◌then◌else◌, codes}
 use Rattle.item_definitions.specs.Item.{Item, Attributes, list_of, items_of}
 use Rattle.item_definitions.specs.Item as items
 use Rattle.item_definitions.specs.Children.{parent_of, offset_of}

@@ -10,12 +10,15 @@ ghost use Rattle.downcast_definitions.specs.Meant.{meant};
 ghost use Rattle.downcast_definitions.specs.Shown.{HasShapes, IsShown};
 ghost use Rattle.downcast_definitions.specs.Among.{place_among, gap_among};
 ghost use Rattle.downcast_definitions.specs.Rule.{kind_at, layers_to, parent_at};
-ghost use Rattle.downcast_definitions.specs.Sample.{letters, bold, italic, both, holding, paragraph, at, document, one_paragraph, overriding, marker, made, p, strong, slanted, comment};
+ghost use Rattle.downcast_definitions.specs.Sample.{letters, bold, italic, both, holding, paragraph, at, document, one_paragraph, overriding, marker, made, p};
+ghost use Rattle.downcast_definitions.specs.Sample.{strong, slanted, comment};
 
 /// Bold on `bc` and italic on `cd`: the layers nest by their identity texts.
 fn two_layers()
-    ensures { downcast sample (one_paragraph (letters [] (codes "a") ++ (letters bold (codes "b") ++ (letters both (codes "c") ++ letters italic (codes "d")))) [])
-        ≡ p (text (codes "a") ∷ in_layer strong (text (codes "b") ∷ []) ∷ in_layer slanted (in_layer strong (text (codes "c") ∷ []) ∷ text (codes "d") ∷ []) ∷ []) ∷ [] }
+    ensures { downcast sample (one_paragraph
+        (letters [] (codes "a") ++ (letters bold (codes "b") ++ (letters both (codes "c") ++ letters italic (codes "d")))) [])
+        ≡ p (text (codes "a") ∷ in_layer strong (text (codes "b") ∷ [])
+        ∷ in_layer slanted (in_layer strong (text (codes "c") ∷ []) ∷ text (codes "d") ∷ []) ∷ []) ∷ [] }
 {}
 
 /// What is inserted at the ends of a marker is not in its highlight.
@@ -26,11 +29,14 @@ fn highlight()
 
 /// A collapsed marker has one leaf, behind which the position there is seen.
 fn leaf()
-    ensures view { downcast sample (one_paragraph (holding 2 (codes "checkbox") [] ∷ holding 3 (codes "checkbox") [] ∷ []) (marker (codes "bookmark") (0 ∷ 1 ∷ []) (0 ∷ 1 ∷ [])))
+    ensures view { downcast sample (one_paragraph (holding 2 (codes "checkbox") [] ∷ holding 3 (codes "checkbox") [] ∷ [])
+        (marker (codes "bookmark") (0 ∷ 1 ∷ []) (0 ∷ 1 ∷ [])))
         ≡ p (made empty (codes "input") [] [] ∷ made ui (codes "a") (class (codes "bookmark")) [] ∷ made empty (codes "input") [] [] ∷ []) ∷ [] }
-    ensures place { seen sample (one_paragraph (holding 2 (codes "checkbox") [] ∷ holding 3 (codes "checkbox") [] ∷ []) (marker (codes "bookmark") (0 ∷ 1 ∷ []) (0 ∷ 1 ∷ []))) (0 ∷ 1 ∷ [])
+    ensures place { seen sample (one_paragraph (holding 2 (codes "checkbox") [] ∷ holding 3 (codes "checkbox") [] ∷ [])
+        (marker (codes "bookmark") (0 ∷ 1 ∷ []) (0 ∷ 1 ∷ []))) (0 ∷ 1 ∷ [])
         ≡ 0 ∷ 2 ∷ [] }
-    ensures meant { meant sample (one_paragraph (holding 2 (codes "checkbox") [] ∷ holding 3 (codes "checkbox") [] ∷ []) (marker (codes "bookmark") (0 ∷ 1 ∷ []) (0 ∷ 1 ∷ []))) (0 ∷ 2 ∷ [])
+    ensures meant { meant sample (one_paragraph (holding 2 (codes "checkbox") [] ∷ holding 3 (codes "checkbox") [] ∷ [])
+        (marker (codes "bookmark") (0 ∷ 1 ∷ []) (0 ∷ 1 ∷ []))) (0 ∷ 2 ∷ [])
         ≡ Some (0 ∷ 1 ∷ []) }
 {}
 
@@ -56,7 +62,8 @@ fn before_the_leaf()
 /// An element's index counts the elements before it, and not the characters.
 fn indexes()
     ensures { downcast sample (document (letters [] (codes "a") ++ (holding 1 (codes "listItem") [] ∷ holding 2 (codes "listItem") [] ∷ [])) [] (at (0 ∷ [])))
-        ≡ text (codes "a") ∷ made container (codes "li") ((codes "data-n", codes "1") ∷ []) [] ∷ made container (codes "li") ((codes "data-n", codes "2") ∷ []) [] ∷ [] }
+        ≡ text (codes "a") ∷ made container (codes "li") ((codes "data-n", codes "1") ∷ []) []
+        ∷ made container (codes "li") ((codes "data-n", codes "2") ∷ []) [] ∷ [] }
 {}
 
 /// Between two objects in one attribute element a position is seen in it.
@@ -79,7 +86,8 @@ fn carets()
     ensures next_seen { seen sample (overriding (Some true) (letters [] (codes "a") ++ letters bold (codes "b")) []) (0 ∷ 1 ∷ []) ≡ 0 ∷ 1 ∷ 0 ∷ 0 ∷ [] }
     ensures commented { downcast sample (overriding (Some true) (letters [] (codes "ab")) (marker (codes "comment") (0 ∷ 0 ∷ []) (0 ∷ 2 ∷ [])))
         ≡ p (in_layer comment (text (codes "a") ∷ in_layer strong [] ∷ text (codes "b") ∷ []) ∷ []) ∷ [] }
-    ensures commented_seen { seen sample (overriding (Some true) (letters [] (codes "ab")) (marker (codes "comment") (0 ∷ 0 ∷ []) (0 ∷ 2 ∷ []))) (0 ∷ 1 ∷ []) ≡ 0 ∷ 0 ∷ 1 ∷ 0 ∷ [] }
+    ensures commented_seen { seen sample (overriding (Some true) (letters [] (codes "ab")) (marker (codes "comment") (0 ∷ 0 ∷ []) (0 ∷ 2 ∷ [])))
+        (0 ∷ 1 ∷ []) ≡ 0 ∷ 0 ∷ 1 ∷ 0 ∷ [] }
 {}
 
 /// A position in an element without a slot is seen before it, and a place in it means nothing.
@@ -87,7 +95,8 @@ fn hidden()
     ensures view { downcast sample (document (holding 1 (codes "image") (letters [] (codes "a")) ∷ []) [] (at (0 ∷ [])))
         ≡ made container (codes "figure") (class (codes "image")) (made empty (codes "img") [] [] ∷ []) ∷ [] }
     ensures place { seen sample (document (holding 1 (codes "image") (letters [] (codes "a")) ∷ []) [] (at (0 ∷ []))) (0 ∷ 1 ∷ []) ≡ 0 ∷ [] }
-    ensures inline { seen sample (one_paragraph (letters [] (codes "a") ++ (holding 2 (codes "checkbox") (letters [] (codes "b")) ∷ [])) []) (0 ∷ 1 ∷ 0 ∷ []) ≡ 0 ∷ 0 ∷ 1 ∷ [] }
+    ensures inline { seen sample (one_paragraph (letters [] (codes "a") ++ (holding 2 (codes "checkbox") (letters [] (codes "b")) ∷ [])) [])
+        (0 ∷ 1 ∷ 0 ∷ []) ≡ 0 ∷ 0 ∷ 1 ∷ [] }
     ensures meant { meant sample (document (holding 1 (codes "image") (letters [] (codes "a")) ∷ []) [] (at (0 ∷ []))) (0 ∷ 0 ∷ []) ≡ None }
 {}
 
@@ -95,8 +104,10 @@ fn hidden()
 /// isn't.
 fn shown()
     ensures shapes { HasShapes sample (one_paragraph (letters [] (codes "a") ++ (holding 2 (codes "checkbox") (letters [] (codes "b")) ∷ [])) []) }
-    ensures in_paragraph { IsShown sample (one_paragraph (letters [] (codes "a") ++ (holding 2 (codes "checkbox") (letters [] (codes "b")) ∷ [])) []) (0 ∷ 1 ∷ []) }
-    ensures in_checkbox { IsShown sample (one_paragraph (letters [] (codes "a") ++ (holding 2 (codes "checkbox") (letters [] (codes "b")) ∷ [])) []) (0 ∷ 1 ∷ 0 ∷ []) → ⊥ }
+    ensures in_paragraph { IsShown sample (one_paragraph (letters [] (codes "a") ++ (holding 2 (codes "checkbox") (letters [] (codes "b")) ∷ [])) [])
+        (0 ∷ 1 ∷ []) }
+    ensures in_checkbox { IsShown sample (one_paragraph (letters [] (codes "a") ++ (holding 2 (codes "checkbox") (letters [] (codes "b")) ∷ [])) [])
+        (0 ∷ 1 ∷ 0 ∷ []) → ⊥ }
 {}
 
 /// What the rule looks at: the parent of a position, whether the caret stands there, and the places among the nodes of the parent's content. Between

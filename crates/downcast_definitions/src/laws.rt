@@ -12,7 +12,8 @@ ghost use Rattle.downcast_definitions.specs.Rows.{numbered_downcast, downcast};
 ghost use Rattle.downcast_definitions.specs.Seen.{mark_at, seen};
 ghost use Rattle.downcast_definitions.specs.Meant.{meant};
 ghost use Rattle.downcast_definitions.specs.Shown.{HaveShapes, HasShapes, IsShown};
-ghost use Rattle.downcast_definitions.specs.Rule.{item_before, IsNoCharacter, StandAsShapes, HasCaret, IsPlainBoundary, HasCharacter, IsSeenBehind, IsSeenBefore, IsSeenBetween, IsSeenInLayers, IsSeenAtCaret, parent_at, IsSeenInParent};
+ghost use Rattle.downcast_definitions.specs.Rule.{item_before, IsNoCharacter, StandAsShapes, HasCaret, IsPlainBoundary, HasCharacter, IsSeenBehind};
+ghost use Rattle.downcast_definitions.specs.Rule.{IsSeenBefore, IsSeenBetween, IsSeenInLayers, IsSeenAtCaret, parent_at, IsSeenInParent};
 
 /// The place of the view where a position is seen means that position, if the position is in no element without a slot and each element of the
 /// document stands as a shape. (After `Mapper` of CKEditor 5, whose `toViewPosition` and `toModelPosition` are inverse.)

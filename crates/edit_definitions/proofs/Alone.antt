@@ -132,7 +132,8 @@ none-behind : (position : List ℕ) (q : List ℕ) (n : ℕ) (parts : List Range
     → All (λ (other : Range). IsTrue (not_after position other.start)) parts → any_holds parts q ≡ true → ⊥
 none-behind position q n [] is ordered e = absurd cc
 none-behind position q n (part ∷ parts) is ordered e =
-    go (holds part q) refl e (λ f. none-behind position q n parts is (All-tail (λ (other : Range). IsTrue (not_after position other.start)) part parts ordered) f)
+    go (holds part q) refl e (λ f. none-behind position q n parts is (All-tail (λ (other : Range). IsTrue (not_after position other.start)) part parts
+    ordered) f)
   where
     go : (t : Bool) → holds part q ≡ t → (t || any_holds parts q) ≡ true → (any_holds parts q ≡ true → ⊥) → ⊥
     go true t e rest =

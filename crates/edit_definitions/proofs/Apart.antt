@@ -5,7 +5,8 @@ use Rattle.item_definitions.specs.Item.{Item}
 use Rattle.operation_definitions.specs.Operation.{Fault, Operation}
 use Rattle.document_definitions.specs.Document.{Document, State, all_applied}
 use Rattle.edit_definitions.specs.declared.edit.Edit.{Edit}
-use Rattle.edit_definitions.specs.declared.edit.Edit.TheVariants.{InsertText, InsertElement, Remove, Move, SetAttribute, RemoveAttribute, Rename, Split, Merge, Wrap, Unwrap, AddMarker, UpdateMarker, RemoveMarker, Select, SelectionAttribute, InsertItems}
+use Rattle.edit_definitions.specs.declared.edit.Edit.TheVariants.{InsertText, InsertElement, Remove, Move, SetAttribute, RemoveAttribute, Rename, Split, Merge}
+use Rattle.edit_definitions.specs.declared.edit.Edit.TheVariants.{Wrap, Unwrap, AddMarker, UpdateMarker, RemoveMarker, Select, SelectionAttribute, InsertItems}
 use Rattle.edit_definitions.specs.Planned.{◌>>=◌, operations_of}
 use Rattle.edit_definitions.specs.Performed.{limit_fault, as_step, selecting, performed, all_performed, apart, document_made, edits_made}
 use Rattle.edit_definitions.proofs.Cells.{AreTwins, plans-twins}
@@ -40,26 +41,33 @@ made-same edit number (Ok state) (Err fault) e = absurd cc
 made-same edit number (Err fault) (Ok twin) e = absurd cc
 made-same edit number (Err fault) (Err same) e = (let equal : fault ≡ same = cc in ap (λ fault. Err (limit_fault number fault)) equal)
 
-planned-same : (edit : Edit) (number : ℕ) (document : Document) (cells others : List (List Item)) (p twin : Result (List Operation) EditFault) → AreTwins (length cells) (length others) p twin
-    → document_made (p >>= (λ operations. as_step number (all_applied operations record { document = document; cells = cells }) >>= (λ made. Ok (selecting edit made))))
-    ≡ document_made (twin >>= (λ operations. as_step number (all_applied operations record { document = document; cells = others }) >>= (λ made. Ok (selecting edit made))))
+planned-same : (edit : Edit) (number : ℕ) (document : Document) (cells others : List (List Item)) (p twin : Result (List Operation) EditFault)
+    → AreTwins (length cells) (length others) p twin
+    → document_made (p >>= (λ operations. as_step number (all_applied operations record { document = document; cells = cells })
+    >>= (λ made. Ok (selecting edit made))))
+    ≡ document_made (twin >>= (λ operations. as_step number (all_applied operations record { document = document; cells = others })
+    >>= (λ made. Ok (selecting edit made))))
 planned-same edit number document cells others (Err fault) (Err same) h = ap Err h
 planned-same edit number document cells others (Ok operations) (Err fault) h = absurd h
 planned-same edit number document cells others (Err fault) (Ok twins) h = absurd h
 planned-same edit number document cells others (Ok operations) (Ok twins) h =
-    made-same edit number (all_applied operations record { document = document; cells = cells }) (all_applied twins record { document = document; cells = others })
+    made-same edit number (all_applied operations record { document = document; cells = cells })
+    (all_applied twins record { document = document; cells = others })
     (ap (λ os. document_in (all_applied os record { document = document; cells = cells })) h.these
     ∙ all-same operations h.outward (length cells) (length others) document cells others refl refl
     ∙ ap (λ os. document_in (all_applied os record { document = document; cells = others })) (sym h.those))
 
 performed-same : (registered : List ℕ → Bool) (number : ℕ) (edit : Edit) (document : Document) (cells others : List (List Item))
-    → document_made (performed registered number edit record { document = document; cells = cells }) ≡ document_made (performed registered number edit record { document = document; cells = others })
+    → document_made (performed registered number edit record { document = document; cells = cells })
+    ≡ document_made (performed registered number edit record { document = document; cells = others })
 performed-same registered number edit document cells others =
-    planned-same edit number document cells others (operations_of registered number edit record { document = document; cells = cells }) (operations_of registered number edit record { document = document; cells = others })
+    planned-same edit number document cells others (operations_of registered number edit record { document = document; cells = cells })
+    (operations_of registered number edit record { document = document; cells = others })
     (plans-twins registered number edit document cells others)
 
 rest-same : (r twin : Result State EditFault) (next : State → Result State EditFault) → document_made r ≡ document_made twin
-    → ((state other : State) → state.document ≡ other.document → document_made (next state) ≡ document_made (next other)) → document_made (r >>= next) ≡ document_made (twin >>= next)
+    → ((state other : State) → state.document ≡ other.document → document_made (next state) ≡ document_made (next other)) → document_made (r >>= next)
+    ≡ document_made (twin >>= next)
 rest-same (Ok state) (Ok twin) next e h = (let same : state.document ≡ twin.document = cc in h state twin same)
 rest-same (Ok state) (Err fault) next e h = absurd cc
 rest-same (Err fault) (Ok twin) next e h = absurd cc

@@ -1,5 +1,6 @@
 -- The cells that the operations of an edit name: each fills the next new one, and none takes anything out of one.
-use Rattle.std.proofs.Common.{◌≡◌, ℕ, ◌+◌, ◌^◌, Bool, true, false, not, nat_le, nat_lt, ◌&&◌, ◌||◌, ◌==◌, if◌then◌else◌, List, [], ◌∷◌, ◌++◌, map, reverse, length, Option, Some, None, is_none, option_and_then, unwrap_or, ok_or, Result, Ok, Err, refl, ap, arith}
+use Rattle.std.proofs.Common.{◌≡◌, ℕ, ◌+◌, ◌^◌, Bool, true, false, not, nat_le, nat_lt, ◌&&◌, ◌||◌, ◌==◌, if◌then◌else◌, List, [], ◌∷◌, ◌++◌, map, reverse}
+use Rattle.std.proofs.Common.{length, Option, Some, None, is_none, option_and_then, unwrap_or, ok_or, Result, Ok, Err, refl, ap, arith}
 use Rattle.std.specs.List.{flat_map}
 use Rattle.ck_base.specs.declared.value.Value.{Value as AttributeValue}
 use Rattle.ck_base.specs.declared.faults.EditFault.{EditFault}
@@ -13,11 +14,13 @@ use Rattle.operation_definitions.specs.Operation.{in_tree, in_cell, fresh, from_
 use Rattle.document_definitions.specs.Document.{Document, ids_of}
 use Rattle.document_definitions.specs.Selection.{same_position, same_range}
 use Rattle.edit_definitions.specs.declared.edit.Edit.{Edit}
-use Rattle.edit_definitions.specs.declared.edit.Edit.TheVariants.{InsertText, InsertElement, Remove, Move, SetAttribute, RemoveAttribute, Rename, Split, Merge, Wrap, Unwrap, AddMarker, UpdateMarker, RemoveMarker, Select, SelectionAttribute, InsertItems}
+use Rattle.edit_definitions.specs.declared.edit.Edit.TheVariants.{InsertText, InsertElement, Remove, Move, SetAttribute, RemoveAttribute, Rename, Split, Merge}
+use Rattle.edit_definitions.specs.declared.edit.Edit.TheVariants.{Wrap, Unwrap, AddMarker, UpdateMarker, RemoveMarker, Select, SelectionAttribute, InsertItems}
 use Rattle.edit_definitions.specs.declared.edit.Target.{Target}
 use Rattle.edit_definitions.specs.Places.{is_there, is_range, are_in_one, is_element, is_between, is_known}
 use Rattle.edit_definitions.specs.Runs.{Run, attribute_runs, give_in, runs_of, items_of_range, with_ids}
-use Rattle.edit_definitions.specs.Planned.{◌>>=◌, check, insertion, empty_element, removals, moved_run, count_in, given_to, parts_of, renaming, name_of, known_names, unknown_in, operations_of}
+use Rattle.edit_definitions.specs.Planned.{◌>>=◌, check, insertion, empty_element, removals, moved_run, count_in, given_to, parts_of, renaming, name_of}
+use Rattle.edit_definitions.specs.Planned.{known_names, unknown_in, operations_of}
 
 -- the operation with this number for the cell that it fills
 abbrev pub numbered : ℕ → Operation → Operation
@@ -155,11 +158,13 @@ runs-free parent key new (run ∷ runs) = (tt, runs-free parent key new runs)
 
 parts-free : (items : List Item) (key : List ℕ) (new : Option AttributeValue) (parts : List Range) → AreCellFree (flat_map (give_in items key new) parts)
 parts-free items key new [] = tt
-parts-free items key new (part ∷ parts) = free-append (give_in items key new part) (flat_map (give_in items key new) parts) (runs-free (parent_of part.start) key new (runs_of key new (offset_of part.start) (items_of_range items part))) (parts-free items key new parts)
+parts-free items key new (part ∷ parts) = free-append (give_in items key new part) (flat_map (give_in items key new) parts)
+    (runs-free (parent_of part.start) key new (runs_of key new (offset_of part.start) (items_of_range items part))) (parts-free items key new parts)
 
 removals-numbered : (number other : ℕ) (parts : List Range) → removals other parts ≡ numbered_from other (removals number parts)
 removals-numbered number other [] = refl
-removals-numbered number other (part ∷ parts) = ap (λ rest. move (in_tree part.start) (count_in part.start part.end) (in_cell other) ∷ rest) (removals-numbered (number + 1) (other + 1) parts)
+removals-numbered number other (part ∷ parts) = ap (λ rest. move (in_tree part.start) (count_in part.start part.end) (in_cell other) ∷ rest)
+    (removals-numbered (number + 1) (other + 1) parts)
 
 removals-outward : (number : ℕ) (parts : List Range) → AreOutward (removals number parts)
 removals-outward number [] = tt
@@ -195,7 +200,8 @@ merged-twins number other right target = record { these = refl; those = refl; ou
 given-twins : (number other edit : ℕ) (items : List Item) (target : Target) (key : List ℕ) (new : Option AttributeValue)
     → AreTwins number other (given_to edit items target key new) (given_to edit items target key new)
 given-twins number other edit items target key new =
-    twin-step number other (parts_of edit items target) (λ parts. Ok (flat_map (give_in items key new) parts)) (λ parts. Ok (flat_map (give_in items key new) parts))
+    twin-step number other (parts_of edit items target) (λ parts. Ok (flat_map (give_in items key new) parts))
+    (λ parts. Ok (flat_map (give_in items key new) parts))
     (λ parts. free-twins number other (flat_map (give_in items key new) parts) (parts-free items key new parts))
 
 -- the same premises before two plans
@@ -204,13 +210,16 @@ one-check : (number other : ℕ) (a : Bool) (f : EditFault) (r twin : Result (Li
 one-check number other true f r twin h = h
 one-check number other false f r twin h = refl
 
-two-checks : (number other : ℕ) (a : Bool) (f : EditFault) (b : Bool) (g : EditFault) (r twin : Result (List Operation) EditFault) → AreTwins number other r twin
+two-checks : (number other : ℕ) (a : Bool) (f : EditFault) (b : Bool) (g : EditFault) (r twin : Result (List Operation) EditFault)
+    → AreTwins number other r twin
     → AreTwins number other (check a f >>= (λ _. check b g >>= (λ _. r))) (check a f >>= (λ _. check b g >>= (λ _. twin)))
 two-checks number other true f b g r twin h = one-check number other b g r twin h
 two-checks number other false f b g r twin h = refl
 
-three-checks : (number other : ℕ) (a : Bool) (f : EditFault) (b : Bool) (g : EditFault) (c : Bool) (e : EditFault) (r twin : Result (List Operation) EditFault) → AreTwins number other r twin
-    → AreTwins number other (check a f >>= (λ _. check b g >>= (λ _. check c e >>= (λ _. r)))) (check a f >>= (λ _. check b g >>= (λ _. check c e >>= (λ _. twin))))
+three-checks : (number other : ℕ) (a : Bool) (f : EditFault) (b : Bool) (g : EditFault) (c : Bool) (e : EditFault)
+    (r twin : Result (List Operation) EditFault) → AreTwins number other r twin
+    → AreTwins number other (check a f >>= (λ _. check b g >>= (λ _. check c e >>= (λ _. r))))
+    (check a f >>= (λ _. check b g >>= (λ _. check c e >>= (λ _. twin))))
 three-checks number other true f b g c e r twin h = two-checks number other b g c e r twin h
 three-checks number other false f b g c e r twin h = refl
 
@@ -224,22 +233,28 @@ plans-twins registered edit (InsertText at text attributes) document cells other
     (free-twins (length cells) (length others) operations (insertion-free at (map (λ scalar. character scalar attributes) text)))
 plans-twins registered edit (InsertElement at name attributes) document cells others =
     let operations = insertion at (empty_element document.next_id name attributes) in
-    three-checks (length cells) (length others) (is_known registered name) (NotRegistered edit name) (is_there document.items at) (BadPosition edit at) (nat_le (document.next_id + 1) (2 ^ 63)) (IdsSpent edit)
+    three-checks (length cells) (length others) (is_known registered name) (NotRegistered edit name) (is_there document.items at) (BadPosition edit at)
+    (nat_le (document.next_id + 1) (2 ^ 63)) (IdsSpent edit)
     (Ok operations) (Ok operations) (free-twins (length cells) (length others) operations (insertion-free at (empty_element document.next_id name attributes)))
 plans-twins registered edit (Remove start end) document cells others =
     let parts = reverse (flat_parts (child_count document.items) (between start end)) in
-    one-check (length cells) (length others) (is_range document.items start end) (BadRange edit start end) (Ok (removals (length cells) parts)) (Ok (removals (length others) parts))
+    one-check (length cells) (length others) (is_range document.items start end) (BadRange edit start end) (Ok (removals (length cells) parts))
+    (Ok (removals (length others) parts))
     (removals-twins (length cells) (length others) parts)
 plans-twins registered edit (Move start end to) document cells others =
     let operations = moved_run start end to in
-    three-checks (length cells) (length others) (is_there document.items to) (BadPosition edit to) (is_range document.items start end && are_in_one start end) (BadRange edit start end) (not (is_between start end to)) (BadTarget edit to)
+    three-checks (length cells) (length others) (is_there document.items to) (BadPosition edit to) (is_range document.items start end
+    && are_in_one start end) (BadRange edit start end) (not (is_between start end to)) (BadTarget edit to)
     (Ok operations) (Ok operations)
-    (free-twins (length cells) (length others) operations (free-if (same_position start end || same_position to start || same_position to end) [] (move (in_tree start) (count_in start end) (in_tree to) ∷ []) tt (tt, tt)))
-plans-twins registered edit (SetAttribute target key value) document cells others = given-twins (length cells) (length others) edit document.items target key (Some value)
+    (free-twins (length cells) (length others) operations (free-if (same_position start end || same_position to start || same_position to end) []
+    (move (in_tree start) (count_in start end) (in_tree to) ∷ []) tt (tt, tt)))
+plans-twins registered edit (SetAttribute target key value) document cells others = given-twins (length cells) (length others) edit document.items
+    target key (Some value)
 plans-twins registered edit (RemoveAttribute target key) document cells others = given-twins (length cells) (length others) edit document.items target key None
 plans-twins registered edit (Rename path name) document cells others =
     one-check (length cells) (length others) (is_known registered name) (NotRegistered edit name) (named >>= rename_from) (named >>= rename_from)
-    (twin-step (length cells) (length others) named rename_from rename_from (λ old. free-twins (length cells) (length others) (renaming path old name) (free-if (same_position old name) [] (rename path old name ∷ []) tt (tt, tt))))
+    (twin-step (length cells) (length others) named rename_from rename_from
+    (λ old. free-twins (length cells) (length others) (renaming path old name) (free-if (same_position old name) [] (rename path old name ∷ []) tt (tt, tt))))
   where
     named : Result (List ℕ) EditFault
     named = ok_or (option_and_then name_of (item_at path document.items)) (BadTarget edit path)
@@ -248,7 +263,8 @@ plans-twins registered edit (Rename path name) document cells others =
     rename_from old = Ok (renaming path old name)
 plans-twins registered edit (Split at) document cells others =
     let operations = split at (fresh document.next_id) ∷ [] in
-    three-checks (length cells) (length others) (is_there document.items at) (BadPosition edit at) (nat_le 2 (length at)) (BadTarget edit at) (nat_le (document.next_id + 1) (2 ^ 63)) (IdsSpent edit)
+    three-checks (length cells) (length others) (is_there document.items at) (BadPosition edit at) (nat_le 2 (length at)) (BadTarget edit at)
+    (nat_le (document.next_id + 1) (2 ^ 63)) (IdsSpent edit)
     (Ok operations) (Ok operations) (free-twins (length cells) (length others) operations (tt, tt))
 plans-twins registered edit (Merge at) document cells others =
     let target = path_before at ++ unwrap_or (child_count document.items (path_before at)) 0 ∷ [] in
@@ -258,10 +274,12 @@ plans-twins registered edit (Merge at) document cells others =
 plans-twins registered edit (Wrap start end name attributes) document cells others =
     let shell = empty_element document.next_id name attributes in
     let rest = (if same_position start end then [] else move (in_tree start) (count_in start end) (in_tree (end ++ 0 ∷ [])) ∷ []) in
-    three-checks (length cells) (length others) (is_known registered name) (NotRegistered edit name) (is_range document.items start end && are_in_one start end) (BadRange edit start end)
+    three-checks (length cells) (length others) (is_known registered name) (NotRegistered edit name) (is_range document.items start end
+    && are_in_one start end) (BadRange edit start end)
     (nat_le (document.next_id + 1) (2 ^ 63)) (IdsSpent edit) (Ok (insertion end shell ++ rest)) (Ok (insertion end shell ++ rest))
     (free-twins (length cells) (length others) (insertion end shell ++ rest)
-    (free-append (insertion end shell) rest (insertion-free end shell) (free-if (same_position start end) [] (move (in_tree start) (count_in start end) (in_tree (end ++ 0 ∷ [])) ∷ []) tt (tt, tt))))
+    (free-append (insertion end shell) rest (insertion-free end shell)
+    (free-if (same_position start end) [] (move (in_tree start) (count_in start end) (in_tree (end ++ 0 ∷ [])) ∷ []) tt (tt, tt))))
 plans-twins registered edit (Unwrap path) document cells others =
     let count = unwrap_or (child_count document.items path) 0 in
     let front = (if count == 0 then [] else move (in_tree (path ++ 0 ∷ [])) count (in_tree (behind path)) ∷ []) in
@@ -270,11 +288,14 @@ plans-twins registered edit (Unwrap path) document cells others =
     (unwrapped-twins (length cells) (length others) path (behind path) count (count == 0))
 plans-twins registered edit (AddMarker name start end) document cells others =
     let operations = marker name None (Some (between start end)) ∷ [] in
-    two-checks (length cells) (length others) (is_range document.items start end) (BadRange edit start end) (is_none (value_of name document.markers)) (MarkerExists edit name)
+    two-checks (length cells) (length others) (is_range document.items start end) (BadRange edit start end) (is_none (value_of name document.markers))
+    (MarkerExists edit name)
     (Ok operations) (Ok operations) (free-twins (length cells) (length others) operations (tt, tt))
 plans-twins registered edit (UpdateMarker name start end) document cells others =
     one-check (length cells) (length others) (is_range document.items start end) (BadRange edit start end) (found >>= change) (found >>= change)
-    (twin-step (length cells) (length others) found change change (λ old. free-twins (length cells) (length others) (if same_range old (between start end) then [] else marker name (Some old) (Some (between start end)) ∷ [])
+    (twin-step (length cells) (length others) found change change
+    (λ old. free-twins (length cells) (length others) (if same_range old (between start end) then []
+    else marker name (Some old) (Some (between start end)) ∷ [])
     (free-if (same_range old (between start end)) [] (marker name (Some old) (Some (between start end)) ∷ []) tt (tt, tt))))
   where
     found : Result Range EditFault
@@ -283,18 +304,22 @@ plans-twins registered edit (UpdateMarker name start end) document cells others 
     change : Range → Result (List Operation) EditFault
     change old = Ok (if same_range old (between start end) then [] else marker name (Some old) (Some (between start end)) ∷ [])
 plans-twins registered edit (RemoveMarker name) document cells others =
-    twin-step (length cells) (length others) (ok_or (value_of name document.markers) (MarkerUnknown edit name)) (λ old. Ok (marker name (Some old) None ∷ [])) (λ old. Ok (marker name (Some old) None ∷ []))
+    twin-step (length cells) (length others) (ok_or (value_of name document.markers) (MarkerUnknown edit name))
+    (λ old. Ok (marker name (Some old) None ∷ [])) (λ old. Ok (marker name (Some old) None ∷ []))
     (λ old. free-twins (length cells) (length others) (marker name (Some old) None ∷ []) (tt, tt))
 plans-twins registered edit (Select start end backward) document cells others =
-    one-check (length cells) (length others) (is_range document.items start end) (BadRange edit start end) (Ok []) (Ok []) (free-twins (length cells) (length others) [] tt)
+    one-check (length cells) (length others) (is_range document.items start end) (BadRange edit start end) (Ok []) (Ok [])
+    (free-twins (length cells) (length others) [] tt)
 plans-twins registered edit (SelectionAttribute key value) document cells others = free-twins (length cells) (length others) [] tt
 plans-twins registered edit (InsertItems at items) document cells others =
     twin-step (length cells) (length others) (known_names edit (unknown_in registered items)) (λ _. rest) (λ _. rest) (λ _.
-    two-checks (length cells) (length others) (is_there document.items at) (BadPosition edit at) (nat_le (document.next_id + length (ids_of items)) (2 ^ 63)) (IdsSpent edit) (Ok operations) (Ok operations)
+    two-checks (length cells) (length others) (is_there document.items at) (BadPosition edit at)
+    (nat_le (document.next_id + length (ids_of items)) (2 ^ 63)) (IdsSpent edit) (Ok operations) (Ok operations)
     (free-twins (length cells) (length others) operations (insertion-free at (with_ids document.next_id items))))
   where
     operations : List Operation
     operations = insertion at (with_ids document.next_id items)
 
     rest : Result (List Operation) EditFault
-    rest = check (is_there document.items at) (BadPosition edit at) >>= (λ _. check (nat_le (document.next_id + length (ids_of items)) (2 ^ 63)) (IdsSpent edit) >>= (λ _. Ok operations))
+    rest = check (is_there document.items at) (BadPosition edit at)
+        >>= (λ _. check (nat_le (document.next_id + length (ids_of items)) (2 ^ 63)) (IdsSpent edit) >>= (λ _. Ok operations))

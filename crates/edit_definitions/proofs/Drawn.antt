@@ -35,7 +35,8 @@ numbers-append next (suc a) b =
     let at : next + 1 + a ≡ next + suc a = omega arith in
     ap (range_with_len next) sum ∙ ap (λ xs. next ∷ xs) (numbers-append (next + 1) a b ∙ ap (λ n. range_with_len (next + 1) a ++ range_with_len n b) at)
 
-joined-ids : (next : ℕ) (front back : List ℕ) → range_with_len next (length front) ++ range_with_len (next + length front) (length back) ≡ range_with_len next (length (front ++ back))
+joined-ids : (next : ℕ) (front back : List ℕ) → range_with_len next (length front) ++ range_with_len (next + length front) (length back)
+    ≡ range_with_len next (length (front ++ back))
 joined-ids next front back = sym (numbers-append next (length front) (length back)) ∙ ap (range_with_len next) (sym (length-append front back))
 
 mutual
@@ -78,7 +79,8 @@ differs id other less = grind (arith, nat_tests)
 differs-back : (id other : ℕ) → other < id → (id == other) ≡ false
 differs-back id other less = grind (arith, nat_tests)
 
-apart-append : (id : ℕ) (front back : List ℕ) → AllByRecursion (λ other. nat_eq id other ≡ false) front → AllByRecursion (λ other. nat_eq id other ≡ false) back → AllByRecursion (λ other. nat_eq id other ≡ false) (front ++ back)
+apart-append : (id : ℕ) (front back : List ℕ) → AllByRecursion (λ other. nat_eq id other ≡ false) front
+    → AllByRecursion (λ other. nat_eq id other ≡ false) back → AllByRecursion (λ other. nat_eq id other ≡ false) (front ++ back)
 apart-append id [] back h k = k
 apart-append id (other ∷ front) back h k = (h.0, apart-append id front back h.1 k)
 
@@ -92,7 +94,8 @@ apart-earlier id (other ∷ ids) h =
     let first = All-head (λ other. (1 ≤ other) × (other < id)) other ids h in
     (differs-back id other first.1, apart-earlier id ids (All-tail (λ other. (1 ≤ other) × (other < id)) other ids h))
 
-pub distinct-from : (next count : ℕ) (ids : List ℕ) → All (λ id. (1 ≤ id) × (id < next)) ids → IsDistinct nat_eq ids → IsDistinct nat_eq (range_with_len next count ++ ids)
+pub distinct-from : (next count : ℕ) (ids : List ℕ) → All (λ id. (1 ≤ id) × (id < next)) ids → IsDistinct nat_eq ids
+    → IsDistinct nat_eq (range_with_len next count ++ ids)
 unfolding IsDistinct
 distinct-from next zero ids drawn h = h
 distinct-from next (suc count) ids drawn h = (
@@ -103,4 +106,5 @@ distinct-from next (suc count) ids drawn h = (
 pub known-from : (next count : ℕ) → 1 ≤ next → next + count ≤ 2 ^ 63 → All (λ id. (1 ≤ id) × (id < 2 ^ 63)) (range_with_len next count)
 known-from next zero some most = λ k d less. absurd (omega arith)
 known-from next (suc count) some most =
-    All-cons (λ id. (1 ≤ id) × (id < 2 ^ 63)) next (range_with_len (next + 1) count) (some, omega (arith, most)) (known-from (next + 1) count (omega arith) (omega (arith, most)))
+    All-cons (λ id. (1 ≤ id) × (id < 2 ^ 63)) next (range_with_len (next + 1) count) (some, omega (arith, most))
+    (known-from (next + 1) count (omega arith) (omega (arith, most)))

@@ -1,5 +1,6 @@
 -- The runs of a change of an attribute are the longest, and tell the value of each item that hasn't the new one.
-use Rattle.std.proofs.Common.{◌≡◌, ℕ, zero, suc, ◌+◌, ◌<◌, ◌≤◌, Bool, true, false, nat_le, nat_lt, ◌&&◌, ◌==◌, if◌then◌else◌, List, [], ◌∷◌, Option, Some, None, slice_get, refl, sym, ap, ◌∙◌, arith}
+use Rattle.std.proofs.Common.{◌≡◌, ℕ, zero, suc, ◌+◌, ◌<◌, ◌≤◌, Bool, true, false, nat_le, nat_lt, ◌&&◌, ◌==◌, if◌then◌else◌, List, [], ◌∷◌, Option, Some, None}
+use Rattle.std.proofs.Common.{slice_get, refl, sym, ap, ◌∙◌, arith}
 use Rattle.std.proofs.lemmas.Bool.Decides.{nat_tests}
 use Rattle.ck_base.specs.declared.value.Value.{Value as AttributeValue}
 use Rattle.ck_base.specs.Entries.{value_of}
@@ -13,7 +14,8 @@ use Rattle.edit_definitions.proofs.Attributed.{AreBehind, all-behind, runs-found
 -- no run has what is before all of them
 none-before : (offset n : ℕ) (runs : List Run) → AreBehind offset runs → n < offset → value_told n runs ≡ None
 none-before offset n [] behind less = refl
-none-before offset n (run ∷ runs) behind less = ap (λ t. if t then Some run.old else value_told n runs) (no run.from run.to (omega (arith, behind.0, less))) ∙ none-before offset n runs behind.1 less
+none-before offset n (run ∷ runs) behind less = ap (λ t. if t then Some run.old else value_told n runs)
+    (no run.from run.to (omega (arith, behind.0, less))) ∙ none-before offset n runs behind.1 less
   where
     no : (from to : ℕ) → n < from → (nat_le from n && nat_lt n to) ≡ false
     no from to less = grind (arith, nat_tests)
@@ -36,7 +38,13 @@ front offset old (run ∷ runs) longest behind = go (run.from == offset + 1 && s
         let some = longest.0 in
         let late = behind.0 in
         (omega (arith, some, late), longest.1, (λ at equal. longest.2 at (equal ∙ sym same)), longest.3)
-    go false e runs longest = (omega arith, behind.0, (λ at equal. apart (run.from == offset + 1) (same_value run.old old) (yes run.from (offset + 1) at) (ap (λ v. same_value v old) equal ∙ same_value-own old) e), longest)
+    go false e runs longest = (
+      omega arith,
+      behind.0,
+      (λ at equal. apart (run.from == offset + 1) (same_value run.old old) (yes run.from (offset + 1) at) (ap (λ v. same_value v old) equal
+          ∙ same_value-own old) e),
+      longest,
+    )
       where
         yes : (a b : ℕ) → a ≡ b → (a == b) ≡ true
         yes a b e = grind (arith, nat_tests)
@@ -58,7 +66,8 @@ longest key new offset (item ∷ items) = go (same_value (value_of key (attribut
     go false h = front offset (value_of key (attributes_of item)) rest h (all-behind key (offset + 1) items rest (runs-found key new (offset + 1) items).0)
 
 -- what a run in front tells of its own offset, and that it tells nothing else of the others
-own : (offset : ℕ) (old : Option AttributeValue) (runs : List Run) → AreLongest runs → AreBehind (offset + 1) runs → value_told offset (joined offset old runs) ≡ Some old
+own : (offset : ℕ) (old : Option AttributeValue) (runs : List Run) → AreLongest runs → AreBehind (offset + 1) runs
+    → value_told offset (joined offset old runs) ≡ Some old
 own offset old [] longest behind = ap (λ t. if t then Some old else None) (yes offset (offset + 1) (omega arith))
   where
     yes : (n to : ℕ) → n < to → (nat_le n n && nat_lt n to) ≡ true
@@ -72,8 +81,10 @@ own offset old (run ∷ runs) longest behind = go (run.from == offset + 1 && sam
     yes : (n to : ℕ) → n < to → (nat_le n n && nat_lt n to) ≡ true
     yes n to less = grind (arith, nat_tests)
 
-    go : (t : Bool) → value_told offset (if t then record { from = offset; to = run.to; old = old } ∷ runs else record { from = offset; to = offset + 1; old = old } ∷ run ∷ runs) ≡ Some old
-    go true = ap (λ t. if t then Some old else value_told offset runs) (yes offset run.to (let some = first runs longest in let late = behind.0 in omega (arith, some, late)))
+    go : (t : Bool) → value_told offset (if t then record { from = offset; to = run.to; old = old } ∷ runs
+        else record { from = offset; to = offset + 1; old = old } ∷ run ∷ runs) ≡ Some old
+    go true = ap (λ t. if t then Some old else value_told offset runs)
+        (yes offset run.to (let some = first runs longest in let late = behind.0 in omega (arith, some, late)))
     go false = ap (λ t. if t then Some old else value_told offset (run ∷ runs)) (yes offset (offset + 1) (omega arith))
 
 others : (offset n : ℕ) (old : Option AttributeValue) (runs : List Run) → offset + 1 ≤ n → value_told n (joined offset old runs) ≡ value_told n runs
@@ -90,7 +101,8 @@ others offset n old (run ∷ runs) less = go (run.from == offset + 1 && same_val
     same_test from to e = grind (arith, nat_tests)
 
     go : (t : Bool) → (run.from == offset + 1 && same_value run.old old) ≡ t
-        → value_told n (if t then record { from = offset; to = run.to; old = old } ∷ runs else record { from = offset; to = offset + 1; old = old } ∷ run ∷ runs) ≡ value_told n (run ∷ runs)
+        → value_told n (if t then record { from = offset; to = run.to; old = old } ∷ runs else record { from = offset; to = offset + 1; old = old }
+        ∷ run ∷ runs) ≡ value_told n (run ∷ runs)
     go true e =
         let b = first_and_second (run.from == offset + 1) (same_value run.old old) e in
         let next : run.from ≡ offset + 1 = (let t = b.0 in grind (arith, nat_tests)) in
@@ -99,7 +111,8 @@ others offset n old (run ∷ runs) less = go (run.from == offset + 1 && same_val
 
 -- each item that hasn't the new value is in a run that tells its value, and no other is in one
 pub told-exactly : (key : List ℕ) (new : Option AttributeValue) (offset : ℕ) (items : List Item) (index : ℕ) (item : Item) → slice_get items index ≡ Some item
-    → value_told (offset + index) (runs_of key new offset items) ≡ (if same_value (value_of key (attributes_of item)) new then None else Some (value_of key (attributes_of item)))
+    → value_told (offset + index) (runs_of key new offset items)
+    ≡ (if same_value (value_of key (attributes_of item)) new then None else Some (value_of key (attributes_of item)))
 told-exactly key new offset [] index item e = absurd cc
 told-exactly key new offset (first ∷ items) zero item e =
     let same : first ≡ item = cc in
@@ -113,7 +126,8 @@ told-exactly key new offset (first ∷ items) zero item e =
     behind : AreBehind (offset + 1) rest
     behind = all-behind key (offset + 1) items rest (runs-found key new (offset + 1) items).0
 
-    go : (t : Bool) → value_told offset (if t then rest else joined offset (value_of key (attributes_of first)) rest) ≡ (if t then None else Some (value_of key (attributes_of first)))
+    go : (t : Bool) → value_told offset (if t then rest else joined offset (value_of key (attributes_of first)) rest)
+        ≡ (if t then None else Some (value_of key (attributes_of first)))
     go true = none-before (offset + 1) offset rest behind (omega arith)
     go false = own offset (value_of key (attributes_of first)) rest (longest key new (offset + 1) items) behind
 told-exactly key new offset (first ∷ items) (suc index) item e =
@@ -124,6 +138,7 @@ told-exactly key new offset (first ∷ items) (suc index) item e =
     rest : List Run
     rest = runs_of key new (offset + 1) items
 
-    go : (t : Bool) → value_told (offset + 1 + index) (if t then rest else joined offset (value_of key (attributes_of first)) rest) ≡ value_told (offset + 1 + index) rest
+    go : (t : Bool) → value_told (offset + 1 + index) (if t then rest else joined offset (value_of key (attributes_of first)) rest)
+        ≡ value_told (offset + 1 + index) rest
     go true = refl
     go false = others offset (offset + 1 + index) (value_of key (attributes_of first)) rest (omega arith)

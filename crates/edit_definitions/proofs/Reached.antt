@@ -1,5 +1,6 @@
 -- Where a change of one list of items can be made, it can be made to the items of the element at a path.
-use Rattle.std.proofs.Common.{◌≡◌, ◌≢◌, ℕ, zero, suc, ◌+◌, ◌≤◌, true, false, nat_le, if◌then◌else◌, List, [], ◌∷◌, ◌++◌, length, take, drop, Option, Some, None, is_some, option_map, option_and_then, slice_get, slice_set, refl, sym, ap, ◌∙◌, arith}
+use Rattle.std.proofs.Common.{◌≡◌, ◌≢◌, ℕ, zero, suc, ◌+◌, ◌≤◌, true, false, nat_le, if◌then◌else◌, List, [], ◌∷◌, ◌++◌, length, take, drop, Option, Some, None}
+use Rattle.std.proofs.Common.{is_some, option_map, option_and_then, slice_get, slice_set, refl, sym, ap, ◌∙◌, arith}
 use Rattle.std.specs.Option.{option_map_or}
 use Rattle.std.proofs.lemmas.Bool.Decides.{nat_tests}
 use Rattle.item_definitions.specs.Item.{Item, inner, with_inner}
@@ -15,7 +16,8 @@ pub record Reached {R : Type 0} (path : List ℕ) (change : Change R) (items new
   pub made : at path change items ≡ Some (whole, r)
   pub there : children_at path whole ≡ Some new
 
-pub reached : {R : Type 0} (path : List ℕ) (change : Change R) (items level new : List Item) (r : R) → children_at path items ≡ Some level → change level ≡ Some (new, r)
+pub reached : {R : Type 0} (path : List ℕ) (change : Change R) (items level new : List Item) (r : R) → children_at path items ≡ Some level
+    → change level ≡ Some (new, r)
     → Reached path change items new r
 reached [] change items level new r e f = (let same : items ≡ level = cc in record { whole = new; made = ap change same ∙ f; there = refl })
 reached {R = R} (index ∷ path) change items level new r e f =
@@ -57,15 +59,18 @@ entered (step ∷ parent) index items kids e =
       holds = deep.holds;
     }
 
-pub children-below : (parent : List ℕ) (index : ℕ) (items level kids : List Item) (item : Item) → children_at parent items ≡ Some level → slice_get level index ≡ Some item → inner item ≡ Some kids
+pub children-below : (parent : List ℕ) (index : ℕ) (items level kids : List Item) (item : Item) → children_at parent items ≡ Some level
+    → slice_get level index ≡ Some item → inner item ≡ Some kids
     → children_at (parent ++ index ∷ []) items ≡ Some kids
 children-below [] index items level kids item e f g =
     let same : items ≡ level = cc in
-    ap (option_and_then (λ item. option_and_then (children_at []) (inner item))) (ap (λ is. slice_get is index) same ∙ f) ∙ ap (option_and_then (children_at [])) g
+    ap (option_and_then (λ item. option_and_then (children_at []) (inner item))) (ap (λ is. slice_get is index) same ∙ f)
+    ∙ ap (option_and_then (children_at [])) g
 children-below (step ∷ parent) index items level kids item e f g =
     let a = then-some (λ item. option_and_then (children_at parent) (inner item)) (slice_get items step) level e in
     let b = then-some (children_at parent) (inner a.0) level a.2 in
-    ap (option_and_then (λ item. option_and_then (children_at (parent ++ index ∷ [])) (inner item))) a.1 ∙ ap (option_and_then (children_at (parent ++ index ∷ []))) b.1
+    ap (option_and_then (λ item. option_and_then (children_at (parent ++ index ∷ [])) (inner item))) a.1
+    ∙ ap (option_and_then (children_at (parent ++ index ∷ []))) b.1
     ∙ children-below parent index b.0 level kids item b.2 f g
 
 -- the item at a path is one of its parent's
@@ -84,7 +89,8 @@ found (index ∷ next ∷ path) items item e =
     let deep = found (next ∷ path) b.0 item b.2 in
     record {
       level = deep.level;
-      there = ap (option_and_then (λ item. option_and_then (children_at (parent_of (next ∷ path))) (inner item))) a.1 ∙ ap (option_and_then (children_at (parent_of (next ∷ path)))) b.1 ∙ deep.there;
+      there = ap (option_and_then (λ item. option_and_then (children_at (parent_of (next ∷ path))) (inner item))) a.1
+          ∙ ap (option_and_then (children_at (parent_of (next ∷ path)))) b.1 ∙ deep.there;
       here = deep.here;
       some = λ same. cc;
     }
@@ -100,7 +106,8 @@ pub has-room : (items : List Item) (position : List ℕ) → is_there items posi
 has-room items [] e = absurd cc
 has-room items (number ∷ path) e = go (children_at (parent_of (number ∷ path)) items) refl e
   where
-    go : (o : Option (List Item)) → children_at (parent_of (number ∷ path)) items ≡ o → option_map_or (λ count. nat_le (offset_of (number ∷ path)) count) (option_map length o) false ≡ true → Room items (number ∷ path)
+    go : (o : Option (List Item)) → children_at (parent_of (number ∷ path)) items ≡ o
+        → option_map_or (λ count. nat_le (offset_of (number ∷ path)) count) (option_map length o) false ≡ true → Room items (number ∷ path)
     go None there e = absurd cc
     go (Some level) there e = record { level = level; there = there; room = grind (arith, nat_tests); some = λ same. cc }
 
@@ -123,14 +130,17 @@ element-there items path e = go (item_at path items) refl e
     go (Some item) here e = in-item item (inner item) here refl e
 
 -- a run that is there is replaced
-pub replace-room : {R : Type 0} (offset count : ℕ) (change : Change R) (xs new : List Item) (r : R) → offset + count ≤ length xs → change (take count (drop offset xs)) ≡ Some (new, r)
+pub replace-room : {R : Type 0} (offset count : ℕ) (change : Change R) (xs new : List Item) (r : R) → offset + count ≤ length xs
+    → change (take count (drop offset xs)) ≡ Some (new, r)
     → replace offset count change xs ≡ Some (take offset xs ++ (new ++ drop (offset + count) xs), r)
 replace-room {R = R} offset count change xs new r room e =
-    ap (λ t. if t then option_map (λ (made : List Item × R). (take offset xs ++ (made.0 ++ drop (offset + count) xs), made.1)) (change (take count (drop offset xs))) else None) (most (offset + count) (length xs) room)
+    ap (λ t. if t then option_map (λ (made : List Item × R). (take offset xs ++ (made.0 ++ drop (offset + count) xs), made.1))
+    (change (take count (drop offset xs))) else None) (most (offset + count) (length xs) room)
     ∙ ap (option_map (λ (made : List Item × R). (take offset xs ++ (made.0 ++ drop (offset + count) xs), made.1))) e
 
 -- items come in where there is room
-pub put-room : (offset : ℕ) (new xs : List Item) → offset ≤ length xs → put_in offset new xs ≡ Some (take offset xs ++ ((new ++ []) ++ drop (offset + 0) xs), tt)
+pub put-room : (offset : ℕ) (new xs : List Item) → offset ≤ length xs → put_in offset new xs
+    ≡ Some (take offset xs ++ ((new ++ []) ++ drop (offset + 0) xs), tt)
 put-room offset new xs room = replace-room offset 0 (λ items. Some (new ++ items, tt)) xs (new ++ []) tt (omega arith) refl
 
 pub one-there : (index : ℕ) (xs : List Item) (item : Item) → slice_get xs index ≡ Some item → (index + 1 ≤ length xs) × (take 1 (drop index xs) ≡ item ∷ [])
@@ -138,7 +148,8 @@ one-there index [] item e = absurd cc
 one-there zero (x ∷ xs) item e = (let same : x ≡ item = cc in (omega arith, ap (λ y. y ∷ []) same))
 one-there (suc index) (x ∷ xs) item e = (let rest = one-there index xs item e in (omega (arith, rest.0), rest.1))
 
-pub two-there : (index : ℕ) (xs : List Item) (left right : Item) → slice_get xs index ≡ Some left → slice_get xs (index + 1) ≡ Some right → (index + 2 ≤ length xs) × (take 2 (drop index xs) ≡ left ∷ right ∷ [])
+pub two-there : (index : ℕ) (xs : List Item) (left right : Item) → slice_get xs index ≡ Some left → slice_get xs (index + 1) ≡ Some right
+    → (index + 2 ≤ length xs) × (take 2 (drop index xs) ≡ left ∷ right ∷ [])
 two-there index [] left right e f = absurd cc
 two-there zero (x ∷ []) left right e f = absurd cc
 two-there zero (x ∷ y ∷ xs) left right e f = (let a : x ≡ left = cc in let b : y ≡ right = cc in (omega arith, λ t. a t ∷ b t ∷ []))

@@ -1,5 +1,6 @@
 -- What an edit plans can be made, but for the limits on the tree: runs that go, the last first.
-use Rattle.std.proofs.Common.{◌≡◌, ◌≢◌, ℕ, ◌+◌, ◌-◌, ◌<◌, ◌≤◌, Bool, true, false, not, nat_le, nat_lt, ◌&&◌, ◌||◌, ◌==◌, if◌then◌else◌, inl, inr, List, [], ◌∷◌, ◌++◌, map, reverse, length, Option, Some, None, unwrap_or, IsSomeAnd, Ok, IsTrue, All, refl, sym, ap, ◌∙◌, subst, arith}
+use Rattle.std.proofs.Common.{◌≡◌, ◌≢◌, ℕ, ◌+◌, ◌-◌, ◌<◌, ◌≤◌, Bool, true, false, not, nat_le, nat_lt, ◌&&◌, ◌||◌, ◌==◌, if◌then◌else◌, inl, inr, List, [], ◌∷◌}
+use Rattle.std.proofs.Common.{◌++◌, map, reverse, length, Option, Some, None, unwrap_or, IsSomeAnd, Ok, IsTrue, All, refl, sym, ap, ◌∙◌, subst, arith}
 use Rattle.std.proofs.lemmas.List.{reverse-append}
 use Rattle.std.proofs.lemmas.List.Elements.{All-head, All-tail}
 use Rattle.std.proofs.lemmas.Bool.Decides.{nat_tests}
@@ -63,26 +64,30 @@ rule-before o count n (next ∷ path) e = pick (nat_le (o + count) n) refl (nat_
     less : (nat_lt n o || (n == o && false)) ≡ true → n < o
     less h = grind (arith, nat_tests)
 
-    pick : (t : Bool) → nat_le (o + count) n ≡ t → (u : Bool) → nat_le o n ≡ u → n < o → (if t then (n - count) ∷ next ∷ path else (if u then o ∷ [] else n ∷ next ∷ path)) ≡ n ∷ next ∷ path
+    pick : (t : Bool) → nat_le (o + count) n ≡ t → (u : Bool) → nat_le o n ≡ u → n < o
+        → (if t then (n - count) ∷ next ∷ path else (if u then o ∷ [] else n ∷ next ∷ path)) ≡ n ∷ next ∷ path
     pick true t u s l = absurd (grind (arith, nat_tests))
     pick false t true s l = absurd (grind (arith, nat_tests))
     pick false t false s l = refl
 
-within-before : (parent : List ℕ) (o count : ℕ) (position : List ℕ) → not_after position (parent ++ o ∷ []) ≡ true → within parent (rule_remove o count) position ≡ position
+within-before : (parent : List ℕ) (o count : ℕ) (position : List ℕ) → not_after position (parent ++ o ∷ []) ≡ true
+    → within parent (rule_remove o count) position ≡ position
 within-before [] o count [] e = refl
 within-before [] o count (n ∷ path) e = rule-before o count n path e
 within-before (s ∷ parent) o count [] e = refl
 within-before (s ∷ parent) o count (n ∷ path) e =
     elim (decide s n) [
       | inl same ↦ ap (λ v. within (s ∷ parent) (rule_remove o count) (v ∷ path)) (sym same) ∙ within-same s parent path (rule_remove o count)
-          ∙ (λ t. same t ∷ within-before parent o count path (sym (not_after-same s path (parent ++ o ∷ [])) ∙ ap (λ v. not_after (v ∷ path) (s ∷ (parent ++ o ∷ []))) same ∙ e) t)
+          ∙ (λ t. same t ∷ within-before parent o count path (sym (not_after-same s path (parent ++ o ∷ []))
+          ∙ ap (λ v. not_after (v ∷ path) (s ∷ (parent ++ o ∷ []))) same ∙ e) t)
       | inr apart ↦ within-other s n parent path (rule_remove o count) apart
     ]
 
 carry-before : (at_ : List ℕ) (count : ℕ) (position : List ℕ) → at_ ≢ [] → not_after position at_ ≡ true → carry_remove at_ count position ≡ position
 carry-before at_ count position some e = within-before (parent_of at_) (offset_of at_) count position (ap (not_after position) (sym (path-joined at_ some)) ∙ e)
 
-range-before : (at_ : List ℕ) (count : ℕ) (range : Range) → at_ ≢ [] → not_after range.start range.end ≡ true → not_after range.end at_ ≡ true → carry_range (remove at_ count) range ≡ range
+range-before : (at_ : List ℕ) (count : ℕ) (range : Range) → at_ ≢ [] → not_after range.start range.end ≡ true → not_after range.end at_ ≡ true
+    → carry_range (remove at_ count) range ≡ range
 range-before at_ count range some ordered before =
     let start = carry-before at_ count range.start some (not_after-trans range.start range.end at_ ordered before) in
     let end = carry-before at_ count range.end some before in
@@ -90,15 +95,18 @@ range-before at_ count range some ordered before =
     ∙ ap (λ b. if not b then between range.start range.start else range) ordered
 
 -- the ranges that are left are there when the first has gone
-still-there : (items : List Item) (cells : List (List Item)) (from : List ℕ) (count number : ℕ) (made : List Item × List (List Item)) (parts : List Range) → from ≢ []
-    → after items cells (move (in_tree from) count (in_cell number)) ≡ Ok made → AreThere (child_count items) parts → AreFlat parts → AreBefore from parts → AreThere (child_count made.0) parts
+still-there : (items : List Item) (cells : List (List Item)) (from : List ℕ) (count number : ℕ) (made : List Item × List (List Item))
+    (parts : List Range) → from ≢ []
+    → after items cells (move (in_tree from) count (in_cell number)) ≡ Ok made → AreThere (child_count items) parts → AreFlat parts
+    → AreBefore from parts → AreThere (child_count made.0) parts
 still-there items cells from count number made [] some e there flat before = tt
 still-there items cells from count number made (part ∷ parts) some e there flat before =
     let kept = keeps_ranges items cells (move (in_tree from) count (in_cell number)) made part tt e (there.0.0, there.0.1, flat.0.1) in
     let same : IsRange (child_count made.0) part = subst (IsRange (child_count made.0)) (range-before from count part some flat.0.1 before.0) kept in
     ((same.0, same.1), still-there items cells from count number made parts some e there.1 flat.1 before.1)
 
-pub removals-applied : (parts : List Range) (state : State) → AreThere (child_count state.document.items) parts → AreFlat parts → AreBackward parts → AreApplied (all_applied (removals (length state.cells) parts) state)
+pub removals-applied : (parts : List Range) (state : State) → AreThere (child_count state.document.items) parts → AreFlat parts → AreBackward parts
+    → AreApplied (all_applied (removals (length state.cells) parts) state)
 removals-applied [] state there flat backward = tt
 removals-applied (part ∷ parts) state there flat backward =
     let items = state.document.items in
@@ -110,18 +118,24 @@ removals-applied (part ∷ parts) state there flat backward =
     let made : List Item × List (List Item) = (s.left, fill cells (length cells) s.run) in
     next-applied operation (removals (length cells + 1) parts) state made s.works
     (λ limits.
-    let done : after items cells operation ≡ Ok made = step (effect items cells operation) limited made (Ok made) s.works (limited-ok s.left (fill cells (length cells) s.run) limits) in
+    let done : after items cells operation ≡ Ok made = step (effect items cells operation) limited made (Ok made) s.works
+    (limited-ok s.left (fill cells (length cells) s.run) limits) in
     subst (λ n. AreApplied (all_applied (removals n parts) (changed operation state made))) (one-more cells s.run)
-    (removals-applied parts (changed operation state made) (still-there items cells part.start count (length cells) made parts f.some done there.1 flat.1 backward.0) flat.1 backward.1))
+    (removals-applied parts (changed operation state made) (still-there items cells part.start count (length cells) made parts f.some done there.1
+    flat.1 backward.0) flat.1 backward.1))
 
 -- the parts of a range are there
 place-under : (index : ℕ) (counts : List ℕ → Option ℕ) (position : List ℕ) → IsPlace (counts_under index counts) position → IsPlace counts (index ∷ position)
 place-under index counts [] h = absurd (h.0 refl)
 place-under index counts (number ∷ path) h = ((λ same. cc), h.1)
 
-under-there : (index : ℕ) (counts : List ℕ → Option ℕ) (parts : List Range) → AreThere (counts_under index counts) parts → AreThere counts (map (under index) parts)
+under-there : (index : ℕ) (counts : List ℕ → Option ℕ) (parts : List Range) → AreThere (counts_under index counts) parts
+    → AreThere counts (map (under index) parts)
 under-there index counts [] h = tt
-under-there index counts (part ∷ parts) h = ((place-under index counts part.start h.0.0, place-under index counts part.end h.0.1), under-there index counts parts h.1)
+under-there index counts (part ∷ parts) h = (
+  (place-under index counts part.start h.0.0, place-under index counts part.end h.0.1),
+  under-there index counts parts h.1,
+)
 
 there-append : (counts : List ℕ → Option ℕ) (a b : List Range) → AreThere counts a → AreThere counts b → AreThere counts (a ++ b)
 there-append counts [] b h k = k
@@ -136,8 +150,13 @@ run-there counts from to most = go (nat_lt from to) refl
 
     go : (t : Bool) → nat_lt from to ≡ t → AreThere counts (if t then between (from ∷ []) (to ∷ []) ∷ [] else [])
     go true t =
-        let less : from < to = grind (arith, nat_tests) in
-        ((((λ same. cc), ends (counts []) from (omega (arith, less)) most (omega (arith, less))), ((λ same. cc), ends (counts []) to (omega (arith, less)) most (omega arith))), tt)
+        let less : from < to = grind (arith, nat_tests) in (
+          (
+            ((λ same. cc), ends (counts []) from (omega (arith, less)) most (omega (arith, less))),
+            ((λ same. cc), ends (counts []) to (omega (arith, less)) most (omega arith)),
+          ),
+          tt,
+        )
     go false t = tt
 
 behind-there : (counts : List ℕ → Option ℕ) (path : List ℕ) → AreThere counts (parts_behind counts path)
@@ -150,21 +169,25 @@ behind-there counts (index ∷ path) =
 before-there : (counts : List ℕ → Option ℕ) (path : List ℕ) → Fits counts path → AreThere counts (parts_before path)
 before-there counts [] fits = tt
 before-there counts (index ∷ path) fits =
-    there-append counts (run 0 index) (map (under index) (parts_before path)) (run-there counts 0 index fits.0) (under-there index counts (parts_before path) (before-there (counts_under index counts) path fits.1))
+    there-append counts (run 0 index) (map (under index) (parts_before path)) (run-there counts 0 index fits.0)
+    (under-there index counts (parts_before path) (before-there (counts_under index counts) path fits.1))
 
 between-there : (counts : List ℕ → Option ℕ) (start end : List ℕ) → Fits counts end → AreThere counts (parts_between counts start end)
 between-there counts [] end fits = before-there counts end fits
 between-there counts (index ∷ path) [] fits = tt
 between-there counts (index ∷ path) (last ∷ rest) fits = go (index == last) refl (between-there (counts_under index counts) path rest)
   where
-    go : (t : Bool) → (index == last) ≡ t → (Fits (counts_under index counts) rest → AreThere (counts_under index counts) (parts_between (counts_under index counts) path rest))
+    go : (t : Bool) → (index == last) ≡ t
+        → (Fits (counts_under index counts) rest → AreThere (counts_under index counts) (parts_between (counts_under index counts) path rest))
         → AreThere counts (if t then map (under index) (parts_between (counts_under index counts) path rest)
         else map (under index) (parts_behind (counts_under index counts) path) ++ (run (next_offset index path) last ++ map (under last) (parts_before rest)))
     go true t within =
         let same : index ≡ last = grind (arith, nat_tests) in
-        under-there index counts (parts_between (counts_under index counts) path rest) (within (subst (λ n. Fits (counts_under n counts) rest) (sym same) fits.1))
+        under-there index counts (parts_between (counts_under index counts) path rest)
+        (within (subst (λ n. Fits (counts_under n counts) rest) (sym same) fits.1))
     go false t within =
-        there-append counts (map (under index) (parts_behind (counts_under index counts) path)) (run (next_offset index path) last ++ map (under last) (parts_before rest))
+        there-append counts (map (under index) (parts_behind (counts_under index counts) path))
+        (run (next_offset index path) last ++ map (under last) (parts_before rest))
         (under-there index counts (parts_behind (counts_under index counts) path) (behind-there (counts_under index counts) path))
         (there-append counts (run (next_offset index path) last) (map (under last) (parts_before rest)) (run-there counts (next_offset index path) last fits.0)
         (under-there last counts (parts_before rest) (before-there (counts_under last counts) rest fits.1)))
@@ -184,7 +207,10 @@ total (x ∷ p) (y ∷ q) e = not_after-cons x y p q ∙ turn (not_after q p) (n
 flat-of : (parts : List Range) → All IsFlat parts → All (λ part. IsTrue (is_before part.start part.end)) parts → AreFlat parts
 flat-of [] flat full = tt
 flat-of (part ∷ parts) flat full = (
-  (All-head IsFlat part parts flat, total part.start part.end (turned (not_after part.end part.start) (All-head (λ part. IsTrue (is_before part.start part.end)) part parts full))),
+  (
+    All-head IsFlat part parts flat,
+    total part.start part.end (turned (not_after part.end part.start) (All-head (λ part. IsTrue (is_before part.start part.end)) part parts full)),
+  ),
   flat-of parts (All-tail IsFlat part parts flat) (All-tail (λ part. IsTrue (is_before part.start part.end)) part parts full),
 )
   where
@@ -203,7 +229,10 @@ AreForward (part ∷ parts) = AreLater part.end parts × AreForward parts
 
 later-of : (position : List ℕ) (parts : List Range) → All (λ later. IsTrue (not_after position later.start)) parts → AreLater position parts
 later-of position [] h = tt
-later-of position (part ∷ parts) h = (All-head (λ later. IsTrue (not_after position later.start)) part parts h, later-of position parts (All-tail (λ later. IsTrue (not_after position later.start)) part parts h))
+later-of position (part ∷ parts) h = (
+  All-head (λ later. IsTrue (not_after position later.start)) part parts h,
+  later-of position parts (All-tail (λ later. IsTrue (not_after position later.start)) part parts h),
+)
 
 forward-of : (parts : List Range) → IsInOrder parts → AreForward parts
 forward-of [] h = tt
@@ -268,5 +297,6 @@ pub removed-applied : (state : State) (start end : List ℕ) → is_range state.
     → AreApplied (all_applied (removals (length state.cells) (reverse (flat_parts (child_count state.document.items) (between start end)))) state)
 removed-applied state start end e =
     let parts = parts-there state.document.items start end e in
-    let t = turned (child_count state.document.items) (flat_parts (child_count state.document.items) (between start end)) parts.there parts.flat parts.forward in
+    let t = turned (child_count state.document.items) (flat_parts (child_count state.document.items) (between start end)) parts.there parts.flat
+    parts.forward in
     removals-applied (reverse (flat_parts (child_count state.document.items) (between start end))) state t.there t.flat t.backward

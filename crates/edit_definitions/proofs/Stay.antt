@@ -1,5 +1,6 @@
 -- Places that are there, and where they are after a run is taken out.
-use Rattle.std.proofs.Common.{◌≡◌, ◌≢◌, ℕ, ◌+◌, ◌-◌, ◌≤◌, Bool, true, false, nat_le, nat_lt, ◌&&◌, ◌||◌, ◌==◌, if◌then◌else◌, List, [], ◌∷◌, ◌++◌, length, Option, Some, None, IsSomeAnd, option_map, Ok, refl, sym, ap, ◌∙◌, subst, arith}
+use Rattle.std.proofs.Common.{◌≡◌, ◌≢◌, ℕ, ◌+◌, ◌-◌, ◌≤◌, Bool, true, false, nat_le, nat_lt, ◌&&◌, ◌||◌, ◌==◌, if◌then◌else◌, List, [], ◌∷◌, ◌++◌, length}
+use Rattle.std.proofs.Common.{Option, Some, None, IsSomeAnd, option_map, Ok, refl, sym, ap, ◌∙◌, subst, arith}
 use Rattle.std.specs.Option.{option_map_or}
 use Rattle.std.proofs.lemmas.Bool.Decides.{nat_tests}
 use Rattle.ck_base.proofs.Common.{first_and_second}
@@ -27,7 +28,8 @@ pub there-place : (items : List Item) (position : List ℕ) → is_there items p
 there-place items [] e = absurd cc
 there-place items (number ∷ path) e = ((λ same. cc), go (child_count items (parent_of (number ∷ path))) e)
   where
-    go : (o : Option ℕ) → option_map_or (λ count. nat_le (offset_of (number ∷ path)) count) o false ≡ true → IsSomeAnd o (λ count. offset_of (number ∷ path) ≤ count)
+    go : (o : Option ℕ) → option_map_or (λ count. nat_le (offset_of (number ∷ path)) count) o false ≡ true
+        → IsSomeAnd o (λ count. offset_of (number ∷ path) ≤ count)
     go None e = absurd cc
     go (Some count) e = grind (arith, nat_tests)
 
@@ -35,12 +37,14 @@ pub place-there : (items : List Item) (position : List ℕ) → IsIn items posit
 place-there items [] h = absurd (h.0 refl)
 place-there items (number ∷ path) h = go (child_count items (parent_of (number ∷ path))) h.1
   where
-    go : (o : Option ℕ) → IsSomeAnd o (λ count. offset_of (number ∷ path) ≤ count) → option_map_or (λ count. nat_le (offset_of (number ∷ path)) count) o false ≡ true
+    go : (o : Option ℕ) → IsSomeAnd o (λ count. offset_of (number ∷ path) ≤ count)
+        → option_map_or (λ count. nat_le (offset_of (number ∷ path)) count) o false ≡ true
     go None h = absurd h
     go (Some count) h = grind (arith, nat_tests)
 
 -- an offset of a parent that is there
-pub there-from : (items : List Item) (parent : List ℕ) (offset : ℕ) (level : List Item) → children_at parent items ≡ Some level → offset ≤ length level → is_there items (parent ++ offset ∷ []) ≡ true
+pub there-from : (items : List Item) (parent : List ℕ) (offset : ℕ) (level : List Item) → children_at parent items ≡ Some level → offset ≤ length level
+    → is_there items (parent ++ offset ∷ []) ≡ true
 there-from items parent offset level e room = place-there items (parent ++ offset ∷ []) (some parent, count)
   where
     some : (parent : List ℕ) → parent ++ offset ∷ [] ≢ []
@@ -49,32 +53,41 @@ there-from items parent offset level e room = place-there items (parent ++ offse
 
     count : IsSomeAnd (option_map length (children_at (parent_of (parent ++ offset ∷ [])) items)) (λ count. offset_of (parent ++ offset ∷ []) ≤ count)
     count =
-        subst (λ p. IsSomeAnd (option_map length (children_at p items)) (λ count. offset_of (parent ++ offset ∷ []) ≤ count)) (sym (parent_of-push parent offset))
+        subst (λ p. IsSomeAnd (option_map length (children_at p items)) (λ count. offset_of (parent ++ offset ∷ []) ≤ count))
+        (sym (parent_of-push parent offset))
         (subst (λ (o : Option (List Item)). IsSomeAnd (option_map length o) (λ count. offset_of (parent ++ offset ∷ []) ≤ count)) (sym e)
         (subst (λ n. n ≤ length level) (sym (offset_of-push parent offset)) room))
 
 -- what is left of a tree within the limits is within them
-left-limited : (path : List ℕ) (offset count : ℕ) (items left run : List Item) → IsLimited items → at path (take_out offset count) items ≡ Some (left, run) → IsLimited left
+left-limited : (path : List ℕ) (offset count : ℕ) (items left run : List Item) → IsLimited items → at path (take_out offset count) items
+    ≡ Some (left, run) → IsLimited left
 left-limited path offset count items left run limits e =
     let fewer = take_out_counts path offset count items left run e in
-    let flatter = at-depths (take_out offset count) (λ xs ys r f. replace-depths (λ run. Some ([], run)) (λ run new r g. none run new r g) offset count xs ys r f) path items left run e in
+    let flatter = at-depths (take_out offset count) (λ xs ys r f. replace-depths (λ run. Some ([], run)) (λ run new r g. none run new r g) offset count
+    xs ys r f) path items left run e in
     (omega (arith, fewer, limits.0), omega (arith, flatter, limits.1))
   where
     none : (run new r : List Item) → ◌≡◌ {A = Option (List Item × List Item)} (Some ([], run)) (Some (new, r)) → depth_of new ≤ depth_of run
-    none run new r e = (let same : [] ≡ new = ap (λ (o : Option (List Item × List Item)). option_map_or (λ (m : List Item × List Item). m.0) o []) e in let zero : 0 ≡ depth_of new = ap depth_of same in omega (arith, zero))
+    none run new r e = (let same : [] ≡ new = ap (λ (o : Option (List Item × List Item)). option_map_or (λ (m : List Item × List Item). m.0) o []) e
+        in let zero : 0 ≡ depth_of new = ap depth_of same in omega (arith, zero))
 
 -- a place that is there is carried to one that is there
-pub remove-there : (from : List ℕ) (count : ℕ) (items left run : List Item) (to : List ℕ) → IsLimited items → at (parent_of from) (take_out (offset_of from) count) items ≡ Some (left, run)
+pub remove-there : (from : List ℕ) (count : ℕ) (items left run : List Item) (to : List ℕ) → IsLimited items
+    → at (parent_of from) (take_out (offset_of from) count) items ≡ Some (left, run)
     → is_there items to ≡ true → is_there left (carry_remove from count to) ≡ true
 remove-there from count items left run to limits e there =
     let place = there-place items to there in
     let range : IsRange (child_count items) (between to to) = (place, place, not_after-itself to) in
     let done = cut items left run [] from count 0 e refl in
     let made : after items [] (move (in_tree from) count (in_cell 0)) ≡ Ok (left, fill [] 0 run) =
-    step (effect items [] (move (in_tree from) count (in_cell 0))) limited (left, fill [] 0 run) (Ok (left, fill [] 0 run)) done (limited-ok left (fill [] 0 run) (left-limited (parent_of from) (offset_of from) count items left run limits e)) in
-    place-there left (carry_remove from count to) (first (is_before (carry_remove from count to) (carry_remove from count to)) (keeps_ranges items [] (move (in_tree from) count (in_cell 0)) (left, fill [] 0 run) (between to to) tt made range))
+    step (effect items [] (move (in_tree from) count (in_cell 0))) limited (left, fill [] 0 run) (Ok (left, fill [] 0 run)) done
+    (limited-ok left (fill [] 0 run) (left-limited (parent_of from) (offset_of from) count items left run limits e)) in
+    place-there left (carry_remove from count to)
+    (first (is_before (carry_remove from count to) (carry_remove from count to))
+    (keeps_ranges items [] (move (in_tree from) count (in_cell 0)) (left, fill [] 0 run) (between to to) tt made range))
   where
-    first : (b : Bool) → IsRange (child_count left) (if b then between (carry_remove from count to) (carry_remove from count to) else between (carry_remove from count to) (carry_remove from count to)) → IsIn left (carry_remove from count to)
+    first : (b : Bool) → IsRange (child_count left) (if b then between (carry_remove from count to) (carry_remove from count to)
+        else between (carry_remove from count to) (carry_remove from count to)) → IsIn left (carry_remove from count to)
     first true h = h.0
     first false h = h.0
 
@@ -112,7 +125,8 @@ pub record Flat (items : List Item) (start end : List ℕ) : Type 0 where
   pub one : parent_of start ≡ parent_of end
   pub short : offset_of start + count_in start end ≤ offset_of end
 
-pub flat-run : (items : List Item) (start end : List ℕ) → is_there items start ≡ true → is_there items end ≡ true → not_after start end ≡ true → parent_of start ≡ parent_of end → Flat items start end
+pub flat-run : (items : List Item) (start end : List ℕ) → is_there items start ≡ true → is_there items end ≡ true → not_after start end ≡ true
+    → parent_of start ≡ parent_of end → Flat items start end
 flat-run items start end first last ordered one =
     let s = has-room items start first in
     let e = has-room items end last in
@@ -126,7 +140,8 @@ flat-run items start end first last ordered one =
       level = e.level;
       there = ap (λ p. children_at p items) one ∙ e.there;
       room = (let most = e.room in omega (arith, plus, most));
-      ends = ap (forward (offset_of end - offset_of start)) start_is ∙ forward-is (offset_of end - offset_of start) (parent_of start) (offset_of start) ∙ ap (λ n. parent_of start ++ n ∷ []) plus ∙ sym end_is;
+      ends = ap (forward (offset_of end - offset_of start)) start_is ∙ forward-is (offset_of end - offset_of start) (parent_of start) (offset_of start)
+          ∙ ap (λ n. parent_of start ++ n ∷ []) plus ∙ sym end_is;
       some = s.some;
       last = last;
       last_some = e.some;
@@ -159,10 +174,14 @@ element-part items path e =
     let whole = path-joined path f.some in
     let next : behind path ≡ parent_of path ++ (offset_of path + 1) ∷ [] = ap behind whole ∙ behind-push (parent_of path) (offset_of path) in
     record {
-      first = subst (IsIn items) (sym whole) (there-place items (parent_of path ++ offset_of path ∷ []) (there-from items (parent_of path) (offset_of path) f.level f.there (let less = one.0 in omega (arith, less))));
-      last = subst (IsIn items) (sym next) (there-place items (parent_of path ++ (offset_of path + 1) ∷ []) (there-from items (parent_of path) (offset_of path + 1) f.level f.there one.0));
+      first = subst (IsIn items) (sym whole)
+          (there-place items (parent_of path ++ offset_of path ∷ []) (there-from items (parent_of path) (offset_of path) f.level f.there (let less = one.0
+          in omega (arith, less))));
+      last = subst (IsIn items) (sym next)
+          (there-place items (parent_of path ++ (offset_of path + 1) ∷ []) (there-from items (parent_of path) (offset_of path + 1) f.level f.there one.0));
       flat = sym (ap parent_of next ∙ parent_of-push (parent_of path) (offset_of path + 1));
-      ordered = (λ t. not_after (whole t) (next t)) ∙ not_after-parent (parent_of path) (offset_of path ∷ []) ((offset_of path + 1) ∷ []) ∙ not_after-cons (offset_of path) (offset_of path + 1) [] [] ∙ less (offset_of path);
+      ordered = (λ t. not_after (whole t) (next t)) ∙ not_after-parent (parent_of path) (offset_of path ∷ []) ((offset_of path + 1) ∷ [])
+          ∙ not_after-cons (offset_of path) (offset_of path + 1) [] [] ∙ less (offset_of path);
     }
   where
     less : (n : ℕ) → (nat_lt n (n + 1) || (n == n + 1 && true)) ≡ true

@@ -1,7 +1,8 @@
 -- What may become of the operations of an edit.
 use Rattle.std.specs.Prelude.{Result, Ok, Err}
 use Rattle.ck_base.specs.declared.faults.EditFault.{EditFault}
-use Rattle.ck_base.specs.declared.faults.EditFault.TheVariants.{NotRegistered, BadPosition, BadRange, BadTarget, MarkerExists, MarkerUnknown, IdsSpent, TooLarge, TooDeep, NoMemory}
+use Rattle.ck_base.specs.declared.faults.EditFault.TheVariants.{NotRegistered, BadPosition, BadRange, BadTarget, MarkerExists, MarkerUnknown, IdsSpent}
+use Rattle.ck_base.specs.declared.faults.EditFault.TheVariants.{TooLarge, TooDeep, NoMemory}
 use Rattle.operation_definitions.specs.Operation.{Fault, no_place, not_flat, into_itself, old_differs, not_neighbours, cell_state, too_large, too_deep}
 use Rattle.document_definitions.specs.Document.{State}
 

@@ -1,6 +1,7 @@
 -- The operations that an edit is made of, or why it can't be made: the first fault in the order of `EditFault`. (After the methods of
 -- `Writer` of CKEditor 5's model; which operations each makes, and in which order, is this engine's own rule.)
-use Rattle.std.specs.Prelude.{ℕ, ◌+◌, ◌-◌, ◌^◌, List, [], ◌∷◌, ◌++◌, map, reverse, length, Bool, true, false, not, ◌&&◌, ◌||◌, nat_le, nat_lt, ◌==◌, if◌then◌else◌, Option, Some, None, is_none, option_and_then, unwrap_or, find, ok_or, Result, Ok, Err}
+use Rattle.std.specs.Prelude.{ℕ, ◌+◌, ◌-◌, ◌^◌, List, [], ◌∷◌, ◌++◌, map, reverse, length, Bool, true, false, not, ◌&&◌, ◌||◌, nat_le, nat_lt, ◌==◌}
+use Rattle.std.specs.Prelude.{if◌then◌else◌, Option, Some, None, is_none, option_and_then, unwrap_or, find, ok_or, Result, Ok, Err}
 use Rattle.std.specs.List.{flat_map}
 use Rattle.ck_base.specs.declared.value.Value.{Value as AttributeValue}
 use Rattle.ck_base.specs.declared.faults.EditFault.{EditFault}
@@ -14,7 +15,8 @@ use Rattle.operation_definitions.specs.Operation.{Operation, in_tree, in_cell, f
 use Rattle.document_definitions.specs.Selection.{same_position, same_range}
 use Rattle.document_definitions.specs.Document.{State, ids_of}
 use Rattle.edit_definitions.specs.declared.edit.Edit.{Edit}
-use Rattle.edit_definitions.specs.declared.edit.Edit.TheVariants.{InsertText, InsertElement, Remove, Move, SetAttribute, RemoveAttribute, Rename, Split, Merge, Wrap, Unwrap, AddMarker, UpdateMarker, RemoveMarker, Select, SelectionAttribute, InsertItems}
+use Rattle.edit_definitions.specs.declared.edit.Edit.TheVariants.{InsertText, InsertElement, Remove, Move, SetAttribute, RemoveAttribute, Rename, Split, Merge}
+use Rattle.edit_definitions.specs.declared.edit.Edit.TheVariants.{Wrap, Unwrap, AddMarker, UpdateMarker, RemoveMarker, Select, SelectionAttribute, InsertItems}
 use Rattle.edit_definitions.specs.declared.edit.Target.{Target}
 use Rattle.edit_definitions.specs.declared.edit.Target.TheVariants.{Range as InRange, Element as OfElement}
 use Rattle.edit_definitions.specs.Places.{is_there, is_range, are_in_one, is_element, is_between, is_known}
@@ -139,11 +141,13 @@ operations_of registered edit (Wrap start end name attributes) state = do
   known ← check (is_known registered name) (NotRegistered edit name)
   flat ← check (is_range state.document.items start end && are_in_one start end) (BadRange edit start end)
   left ← ids_left edit 1 state
-  Ok (insertion end (empty_element state.document.next_id name attributes) ++ (if same_position start end then [] else move (in_tree start) (count_in start end) (in_tree (end ++ 0 ∷ [])) ∷ []))
+  Ok (insertion end (empty_element state.document.next_id name attributes) ++ (if same_position start end then []
+      else move (in_tree start) (count_in start end) (in_tree (end ++ 0 ∷ [])) ∷ []))
 operations_of registered edit (Unwrap path) state = do
   there ← check (is_element state.document.items path) (BadTarget edit path)
   let count = unwrap_or (child_count state.document.items path) 0
-  Ok ((if count == 0 then [] else move (in_tree (path ++ 0 ∷ [])) count (in_tree (behind path)) ∷ []) ++ move (in_tree path) 1 (in_cell (length state.cells)) ∷ [])
+  Ok ((if count == 0 then [] else move (in_tree (path ++ 0 ∷ [])) count (in_tree (behind path)) ∷ [])
+      ++ move (in_tree path) 1 (in_cell (length state.cells)) ∷ [])
 operations_of registered edit (AddMarker name start end) state = do
   there ← check (is_range state.document.items start end) (BadRange edit start end)
   new ← check (is_none (value_of name state.document.markers)) (MarkerExists edit name)

@@ -1,5 +1,6 @@
 -- The runs of items that a change of an attribute is made on, and new ids for items.
-use Rattle.std.specs.Prelude.{◌≡◌, ◌≢◌, ℕ, ◌+◌, ◌-◌, ◌<◌, ◌≤◌, List, [], ◌∷◌, ◌++◌, take, drop, ◌&&◌, ◌==◌, nat_le, nat_lt, if◌then◌else◌, Option, Some, None, unwrap_or}
+use Rattle.std.specs.Prelude.{◌≡◌, ◌≢◌, ℕ, ◌+◌, ◌-◌, ◌<◌, ◌≤◌, List, [], ◌∷◌, ◌++◌, take, drop, ◌&&◌, ◌==◌, nat_le, nat_lt, if◌then◌else◌, Option, Some, None}
+use Rattle.std.specs.Prelude.{unwrap_or}
 use Rattle.ck_base.specs.declared.value.Value.{Value as AttributeValue}
 use Rattle.ck_base.specs.Entries.{value_of}
 use Rattle.item_definitions.specs.Item.{Item, Items, character, element, none, more, attributes_of}
@@ -49,7 +50,8 @@ items_of_range items range =
 -- a change of an attribute on each run
 abbrev pub attribute_runs : List ℕ → List ℕ → Option AttributeValue → List Run → List Operation
 attribute_runs parent key new [] = []
-attribute_runs parent key new (run ∷ runs) = attribute (between (parent ++ run.from ∷ []) (parent ++ run.to ∷ [])) key run.old new ∷ attribute_runs parent key new runs
+attribute_runs parent key new (run ∷ runs) = attribute (between (parent ++ run.from ∷ []) (parent ++ run.to ∷ [])) key run.old new
+    ∷ attribute_runs parent key new runs
 
 -- the operations that give the items of a flat range this value of a key, or none
 abbrev pub give_in : List Item → List ℕ → Option AttributeValue → Range → List Operation

@@ -7,7 +7,9 @@ ghost use Rattle.item_definitions.specs.Position.{between};
 ghost use Rattle.document_definitions.specs.Document.{with_selection};
 ghost use Rattle.item_definitions.specs.Sample.{paragraph, two_paragraphs};
 ghost use Rattle.operation_definitions.specs.Operation.{in_tree, in_cell, fresh, insert, move, attribute, rename, merge, split, marker};
-ghost use Rattle.edit_definitions.specs.declared.edit.Edit.TheVariants.{InsertText, InsertElement, Remove, Move, SetAttribute, RemoveAttribute, Rename, Split, Merge, Wrap, Unwrap, AddMarker, UpdateMarker, RemoveMarker, Select, SelectionAttribute, InsertItems};
+ghost use Rattle.edit_definitions.specs.declared.edit.Edit.TheVariants.{InsertText, InsertElement, Remove, Move, SetAttribute, RemoveAttribute, Rename, Split};
+ghost use Rattle.edit_definitions.specs.declared.edit.Edit.TheVariants.{Merge, Wrap, Unwrap, AddMarker, UpdateMarker, RemoveMarker, Select, SelectionAttribute};
+ghost use Rattle.edit_definitions.specs.declared.edit.Edit.TheVariants.{InsertItems};
 ghost use Rattle.edit_definitions.specs.declared.edit.Target.TheVariants.{Range as InRange, Element as OfElement};
 ghost use Rattle.edit_definitions.specs.Runs.{with_ids};
 ghost use Rattle.edit_definitions.specs.Planned.{operations_of};
@@ -16,7 +18,8 @@ ghost use Rattle.edit_definitions.specs.Sample.{plain, marked, all_names, part_b
 
 /// A text comes in, with the attributes that it is given.
 pub fn inserted_text()
-    ensures some { performed all_names 1 (InsertText (0 ∷ 1 ∷ []) (120 ∷ []) []) (plain two_paragraphs 3) ≡ Ok (plain (paragraph 1 (97 ∷ 120 ∷ 98 ∷ []) ∷ paragraph 2 (99 ∷ 100 ∷ []) ∷ []) 3) }
+    ensures some { performed all_names 1 (InsertText (0 ∷ 1 ∷ []) (120 ∷ []) []) (plain two_paragraphs 3)
+        ≡ Ok (plain (paragraph 1 (97 ∷ 120 ∷ 98 ∷ []) ∷ paragraph 2 (99 ∷ 100 ∷ []) ∷ []) 3) }
     ensures empty { operations_of all_names 1 (InsertText (0 ∷ 1 ∷ []) [] []) (plain two_paragraphs 3) ≡ Ok [] }
     ensures nowhere { operations_of all_names 2 (InsertText (0 ∷ 3 ∷ []) [] []) (plain two_paragraphs 3) ≡ Err (BadPosition 2 (0 ∷ 3 ∷ [])) }
 {}
@@ -49,7 +52,8 @@ pub fn split_and_merged()
 
 /// A run goes into a new element, and the items of an element take its place.
 pub fn wrapped()
-    ensures wrap { performed all_names 1 (Wrap (0 ∷ []) (1 ∷ []) (113 ∷ []) []) (plain (paragraph 1 [] ∷ []) 2) ≡ Ok (plain (element 2 (113 ∷ []) [] (items_of (paragraph 1 [] ∷ [])) ∷ []) 3) }
+    ensures wrap { performed all_names 1 (Wrap (0 ∷ []) (1 ∷ []) (113 ∷ []) []) (plain (paragraph 1 [] ∷ []) 2)
+        ≡ Ok (plain (element 2 (113 ∷ []) [] (items_of (paragraph 1 [] ∷ [])) ∷ []) 3) }
     ensures unwrap { operations_of all_names 1 (Unwrap (0 ∷ [])) (plain two_paragraphs 3)
         ≡ Ok (move (in_tree (0 ∷ 0 ∷ [])) 2 (in_tree (1 ∷ [])) ∷ move (in_tree (0 ∷ [])) 1 (in_cell 0) ∷ []) }
 {}
@@ -105,7 +109,8 @@ pub fn selections()
 
 /// Items come in with new ids.
 pub fn inserted_items()
-    ensures { performed all_names 1 (InsertItems (1 ∷ []) (paragraph 0 [] ∷ [])) (plain (paragraph 1 [] ∷ []) 2) ≡ Ok (plain (paragraph 1 [] ∷ paragraph 2 [] ∷ []) 3) }
+    ensures { performed all_names 1 (InsertItems (1 ∷ []) (paragraph 0 [] ∷ [])) (plain (paragraph 1 [] ∷ []) 2)
+        ≡ Ok (plain (paragraph 1 [] ∷ paragraph 2 [] ∷ []) 3) }
 {}
 
 /// Of two faults at once the first in their order is told.
@@ -115,11 +120,13 @@ pub fn first_faults()
     ensures name_before_range { operations_of all_names 1 (Wrap (9 ∷ []) (9 ∷ []) (36 ∷ []) []) (plain [] 1) ≡ Err (NotRegistered 1 (36 ∷ [])) }
     ensures range_before_ids { operations_of all_names 1 (Wrap (9 ∷ []) (9 ∷ []) (112 ∷ []) []) (plain [] (2 ^ 63)) ≡ Err (BadRange 1 (9 ∷ []) (9 ∷ [])) }
     ensures position_before_range { operations_of all_names 1 (Move (9 ∷ []) (9 ∷ []) (8 ∷ [])) (plain [] 1) ≡ Err (BadPosition 1 (8 ∷ [])) }
-    ensures range_before_target { operations_of all_names 1 (Move (0 ∷ []) (0 ∷ 2 ∷ []) (0 ∷ 1 ∷ [])) (plain two_paragraphs 3) ≡ Err (BadRange 1 (0 ∷ []) (0 ∷ 2 ∷ [])) }
+    ensures range_before_target { operations_of all_names 1 (Move (0 ∷ []) (0 ∷ 2 ∷ []) (0 ∷ 1 ∷ [])) (plain two_paragraphs 3)
+        ≡ Err (BadRange 1 (0 ∷ []) (0 ∷ 2 ∷ [])) }
     ensures position_before_target { operations_of all_names 1 (Split (9 ∷ [])) (plain [] 1) ≡ Err (BadPosition 1 (9 ∷ [])) }
     ensures target_before_ids { operations_of all_names 1 (Split (0 ∷ [])) (plain [] (2 ^ 63)) ≡ Err (BadTarget 1 (0 ∷ [])) }
     ensures name_before_target { operations_of all_names 1 (Rename (9 ∷ []) (36 ∷ [])) (plain [] 1) ≡ Err (NotRegistered 1 (36 ∷ [])) }
     ensures range_before_marker { operations_of all_names 1 (AddMarker (109 ∷ []) (9 ∷ []) (9 ∷ [])) marked ≡ Err (BadRange 1 (9 ∷ []) (9 ∷ [])) }
     ensures range_before_unknown { operations_of all_names 1 (UpdateMarker (120 ∷ []) (9 ∷ []) (9 ∷ [])) marked ≡ Err (BadRange 1 (9 ∷ []) (9 ∷ [])) }
-    ensures item_before_position { operations_of all_names 1 (InsertItems (9 ∷ []) (element 0 (36 ∷ []) [] none ∷ [])) (plain [] 1) ≡ Err (NotRegistered 1 (36 ∷ [])) }
+    ensures item_before_position { operations_of all_names 1 (InsertItems (9 ∷ []) (element 0 (36 ∷ []) [] none ∷ [])) (plain [] 1)
+        ≡ Err (NotRegistered 1 (36 ∷ [])) }
 {}

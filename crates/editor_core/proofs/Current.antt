@@ -28,7 +28,8 @@ shows_document conversion document mapper nodes mapped =
 
 module _ {X : Type 0} {Y : X → Type 0} (gives : DynBox X Global Y → Giving) (editor : Editor X Y) where
   -- a document that returned to what it kept is the one from before
-  pub same_again : (kept changed document : Held) → IsCurrent gives editor → kept ≡ record editor.document { kept = Some (present editor.document) } → changed.kept ≡ kept.kept
+  pub same_again : (kept changed document : Held) → IsCurrent gives editor → kept ≡ record editor.document { kept = Some (present editor.document) }
+      → changed.kept ≡ kept.kept
       → ((moment : Moment) → changed.kept ≡ Some moment → document ≡ returned moment) → document ≡ editor.document
   same_again kept changed document current k c r =
       r (present editor.document) (c ∙ ap (λ (held : Held). held.kept) k)

@@ -18,7 +18,8 @@ module _ {X : Type 0} {Y : X → Type 0} (gives : DynBox X Global Y → Giving) 
   of-listed (first ∷ entries) = ap (λ converters. converter_of gives first.entry ∷ converters) (of-listed entries)
 
   -- a list that was empty, with what was added to it, and nothing else of it changed
-  pub list-is : (new made : ConverterList X Y) (objects wanted indexed : List (List ℕ)) (joined : Bool) (all : List (ℤ × Converter) → List (ℤ × Converter)) → objects ≡ wanted
+  pub list-is : (new made : ConverterList X Y) (objects wanted indexed : List (List ℕ)) (joined : Bool) (all : List (ℤ × Converter)
+      → List (ℤ × Converter)) → objects ≡ wanted
       → conversion_of gives new ≡ record { converters = []; objects = objects; joined = joined; indexed = indexed }
       → listed_of gives made ≡ all (listed_of gives new)
       → record (conversion_of gives made) { converters = [] } ≡ record (conversion_of gives new) { converters = [] }
@@ -27,13 +28,20 @@ module _ {X : Type 0} {Y : X → Type 0} (gives : DynBox X Global Y → Giving) 
       let none = none-listed new.entries.items (ap (λ (conversion : Conversion). conversion.converters) empty) in
       let converters = of-listed made.entries.items ∙ ap (map (λ (entry : ℤ × Converter). entry.1)) (adds ∙ ap all none) in
       let rest = others ∙ ap (λ (conversion : Conversion). record conversion { converters = [] }) empty in
-      λ i. record { converters = converters i; objects = ((ap (λ (conversion : Conversion). conversion.objects) rest) ∙ same) i; joined = (rest i).joined; indexed = (rest i).indexed }
+      λ i. record {
+        converters = converters i;
+        objects = ((ap (λ (conversion : Conversion). conversion.objects) rest) ∙ same) i;
+        joined =
+            (rest i).joined;
+        indexed = (rest i).indexed;
+      }
 
   pub made-is : {F : Type 0} (new : ConverterList X Y) (made : Result (ConverterList X Y) F) (objects wanted indexed : List (List ℕ)) (joined : Bool)
       (all : List (ℤ × Converter) → List (ℤ × Converter)) → objects ≡ wanted
       → conversion_of gives new ≡ record { converters = []; objects = objects; joined = joined; indexed = indexed }
       → IfOk made (λ made. listed_of gives made ≡ all (listed_of gives new))
       → IfOk made (λ made. record (conversion_of gives made) { converters = [] } ≡ record (conversion_of gives new) { converters = [] })
-      → IfOk made (λ made. conversion_of gives made ≡ record { converters = map (λ entry. entry.1) (all []); objects = wanted; joined = joined; indexed = indexed })
+      → IfOk made (λ made. conversion_of gives made
+      ≡ record { converters = map (λ entry. entry.1) (all []); objects = wanted; joined = joined; indexed = indexed })
   made-is new (Err fault) objects wanted indexed joined all same empty adds others = adds
   made-is new (Ok made) objects wanted indexed joined all same empty adds others = list-is new made objects wanted indexed joined all same empty adds others

@@ -1,5 +1,6 @@
 -- The converters of settings, one after the other, where each of a product is taken out of those that are handed in.
-use Rattle.std.proofs.Common.{◌≡◌, ◌≢◌, ℕ, ℤ, List, [], ◌∷◌, ◌++◌, Bool, true, false, ◌&&◌, ◌||◌, not, if◌then◌else◌, Option, Some, None, refl, sym, ap, ◌∙◌, subst}
+use Rattle.std.proofs.Common.{◌≡◌, ◌≢◌, ℕ, ℤ, List, [], ◌∷◌, ◌++◌, Bool, true, false, ◌&&◌, ◌||◌, not, if◌then◌else◌, Option, Some, None, refl, sym, ap, ◌∙◌}
+use Rattle.std.proofs.Common.{subst}
 use Rattle.std.specs.Prelude.{unwrap_or}
 use Rattle.std.specs.Option.{option_or}
 use Rattle.std.specs.Str.{bytes_eq}
@@ -39,11 +40,13 @@ there : (givings : Givings) (name : List ℕ) → has (names_of givings) name �
 there [] name h = λ e. cc
 there (first ∷ rest) name h = go (bytes_eq first.0 name) h (there rest name)
   where
-    go : (t : Bool) → (t || has (names_of rest) name) ≡ true → (has (names_of rest) name ≡ true → giving_of rest name ≢ None) → (if t then Some first.1 else giving_of rest name) ≢ None
+    go : (t : Bool) → (t || has (names_of rest) name) ≡ true → (has (names_of rest) name ≡ true → giving_of rest name ≢ None)
+        → (if t then Some first.1 else giving_of rest name) ≢ None
     go true h rest = λ e. cc
     go false h rest = rest h
 
-uses-more : (before : List ConverterPlan) (plan : ConverterPlan) (name : List ℕ) → uses (before ++ plan ∷ []) name ≡ false → (uses before name ≡ false) × (is_custom plan.entry name ≡ false)
+uses-more : (before : List ConverterPlan) (plan : ConverterPlan) (name : List ℕ) → uses (before ++ plan ∷ []) name ≡ false → (uses before name ≡ false)
+    × (is_custom plan.entry name ≡ false)
 uses-more [] plan name e = (refl, go (is_custom plan.entry name) e)
   where
     go : (t : Bool) → (t || false) ≡ false → t ≡ false
@@ -51,7 +54,8 @@ uses-more [] plan name e = (refl, go (is_custom plan.entry name) e)
     go false e = refl
 uses-more (first ∷ before) plan name e = go (is_custom first.entry name) e (uses-more before plan name)
   where
-    go : (t : Bool) → (t || uses (before ++ plan ∷ []) name) ≡ false → (uses (before ++ plan ∷ []) name ≡ false → (uses before name ≡ false) × (is_custom plan.entry name ≡ false))
+    go : (t : Bool) → (t || uses (before ++ plan ∷ []) name) ≡ false
+        → (uses (before ++ plan ∷ []) name ≡ false → (uses before name ≡ false) × (is_custom plan.entry name ≡ false))
         → ((t || uses before name) ≡ false) × (is_custom plan.entry name ≡ false)
     go true e rest = cc
     go false e rest = rest e
@@ -84,14 +88,16 @@ module _ (all now : Givings) (plan : ConverterPlan) (rest left : List ConverterP
           ap (λ giving. boxed (unwrap_or giving (λ facts. None))) (p.stays name k.1)
 
   -- so that the list with it is on the way to the list with all
-  pub next-added : (made new wanted : List (ℤ × Converter)) → all_added all made left ≡ wanted → new ≡ added (plan.priority, converter_of now plan.entry) made → all_added all new rest ≡ wanted
+  pub next-added : (made new wanted : List (ℤ × Converter)) → all_added all made left ≡ wanted
+      → new ≡ added (plan.priority, converter_of now plan.entry) made → all_added all new rest ≡ wanted
   next-added made new wanted e is =
       ap (λ list. all_added all list rest) (is ∙ ap (λ converter. added (plan.priority, converter) made) next-is)
       ∙ sym (ap (all_added all made) split)
       ∙ e
 
   -- behind it
-  pub next-way : (later : Givings) → ((other : List ℕ) → is_custom plan.entry other ≡ false → giving_of later other ≡ giving_of now other) → Partway all later rest
+  pub next-way : (later : Givings) → ((other : List ℕ) → is_custom plan.entry other ≡ false → giving_of later other ≡ giving_of now other)
+      → Partway all later rest
   next-way later stays = record {
     before = p.before ++ plan ∷ [];
     known = second-none (unknown_custom (names_of all) p.before plan.entry) _ p.known;

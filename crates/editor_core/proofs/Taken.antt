@@ -1,5 +1,6 @@
 -- A converter that is taken out of those that are handed in, by its name.
-use Rattle.std.proofs.Common.{◌≡◌, ℕ, suc, ◌+◌, ◌<◌, List, [], ◌∷◌, map, length, Bool, true, false, if◌then◌else◌, Option, Some, None, option_map, cond, not, refl, sym, ap, ◌∙◌, arith}
+use Rattle.std.proofs.Common.{◌≡◌, ℕ, suc, ◌+◌, ◌<◌, List, [], ◌∷◌, map, length, Bool, true, false, if◌then◌else◌, Option, Some, None, option_map, cond, not}
+use Rattle.std.proofs.Common.{refl, sym, ap, ◌∙◌, arith}
 use Rattle.std.proofs.lemmas.Bool.Decides.{nat_tests}
 use Rattle.std.specs.Global.{Global}
 use Rattle.std.specs.Prelude.{nat_lt, slice_index_or}
@@ -28,13 +29,15 @@ module _ {N : Type 0} (name_of : N → List ℕ) (value : N → Giving) (name : 
       next : (m : ℕ) → slice_index_or (n ∷ list) (1 + m) d ≡ slice_index_or list m d
       next m = (let k : 1 + m ≡ suc m = omega arith in ap (λ i. slice_index_or (n ∷ list) i d) k)
 
-      go : (t : Bool) → cond (not t) (1 + at list) 0 < length (n ∷ list) → (at list < length list → giving_of (named list) name ≡ Some (value (slice_index_or list (at list) d)))
+      go : (t : Bool) → cond (not t) (1 + at list) 0 < length (n ∷ list)
+          → (at list < length list → giving_of (named list) name ≡ Some (value (slice_index_or list (at list) d)))
           → (if t then Some (value n) else giving_of (named list) name) ≡ Some (value (slice_index_or (n ∷ list) (cond (not t) (1 + at list) 0) d))
       go true h rest = refl
       go false h rest = rest (omega (arith, h)) ∙ ap (λ m. Some (value m)) (sym (next (at list)))
 
   -- without it the others stay
-  others-stay : (list : List N) (other : List ℕ) → at list < length list → bytes_eq name other ≡ false → giving_of (named (remove list (at list))) other ≡ giving_of (named list) other
+  others-stay : (list : List N) (other : List ℕ) → at list < length list → bytes_eq name other ≡ false → giving_of (named (remove list (at list))) other
+      ≡ giving_of (named list) other
   others-stay [] other h e = absurd (omega (arith, h))
   others-stay (n ∷ list) other h e = go (bytes_eq (name_of n) name) refl h (λ h. others-stay list other h e)
     where
@@ -44,7 +47,8 @@ module _ {N : Type 0} (name_of : N → List ℕ) (value : N → Giving) (name : 
       go : (t : Bool) → bytes_eq (name_of n) name ≡ t → cond (not t) (1 + at list) 0 < length (n ∷ list)
           → (at list < length list → giving_of (named (remove list (at list))) other ≡ giving_of (named list) other)
           → giving_of (named (remove (n ∷ list) (cond (not t) (1 + at list) 0))) other ≡ giving_of (named (n ∷ list)) other
-      go true t h rest = sym (ap (λ b. if b then Some (value n) else giving_of (named list) other) (ap (λ m. bytes_eq m other) (same_name (name_of n) name t) ∙ e))
+      go true t h rest = sym (ap (λ b. if b then Some (value n) else giving_of (named list) other)
+          (ap (λ m. bytes_eq m other) (same_name (name_of n) name t) ∙ e))
       go false t h rest =
           ap (λ list. giving_of (named list) other) (next (at list))
           ∙ ap (λ found. if bytes_eq (name_of n) other then Some (value n) else found) (rest (omega (arith, h)))
@@ -57,12 +61,14 @@ module _ {N : Type 0} (name_of : N → List ℕ) (value : N → Giving) (name : 
       go true t f = (cc, grind (arith, nat_tests))
       go false t f = cc
 
-  pub taken-there : (list : List N) (place : ℕ) (d : N) → Some place ≡ position (λ n. bytes_eq (name_of n) name) list → Some (value (slice_index_or list place d)) ≡ giving_of (named list) name
+  pub taken-there : (list : List N) (place : ℕ) (d : N) → Some place ≡ position (λ n. bytes_eq (name_of n) name) list
+      → Some (value (slice_index_or list place d)) ≡ giving_of (named list) name
   taken-there list place d e =
       let f = found-place list place e in
       ap (λ m. Some (value (slice_index_or list m d))) f.0 ∙ sym (first-there list d f.1)
 
-  pub others-there : (list rest : List N) (place : ℕ) (other : List ℕ) → Some place ≡ position (λ n. bytes_eq (name_of n) name) list → rest ≡ remove list place → bytes_eq name other ≡ false
+  pub others-there : (list rest : List N) (place : ℕ) (other : List ℕ) → Some place ≡ position (λ n. bytes_eq (name_of n) name) list
+      → rest ≡ remove list place → bytes_eq name other ≡ false
       → giving_of (named rest) other ≡ giving_of (named list) other
   others-there list rest place other e r b =
       let f = found-place list place e in
@@ -80,7 +86,8 @@ module _ {N : Type 0} (name_of : N → List ℕ) (value : N → Giving) (name : 
       none [] h = refl
       none (n ∷ list) h = step (bytes_eq (name_of n) name) h (none list)
         where
-          step : (t : Bool) → nat_lt (cond (not t) (1 + at list) 0) (length (n ∷ list)) ≡ false → (nat_lt (at list) (length list) ≡ false → giving_of (named list) name ≡ None)
+          step : (t : Bool) → nat_lt (cond (not t) (1 + at list) 0) (length (n ∷ list)) ≡ false
+              → (nat_lt (at list) (length list) ≡ false → giving_of (named list) name ≡ None)
               → (if t then Some (value n) else giving_of (named list) name) ≡ None
           step true h rest = absurd (let k : nat_lt 0 (suc (length list)) ≡ false = h in grind (arith, nat_tests))
           step false h rest = rest (grind (arith, nat_tests))
@@ -100,7 +107,8 @@ module _ {X : Type 0} {Y : X → Type 0} (gives : DynBox X Global Y → Giving) 
   one-later place (first ∷ list) = go (bytes_eq first.name name) (one-later (suc place) list)
     where
       go : (t : Bool) → place_from (suc (suc place)) name list ≡ option_map suc (place_from (suc place) name list)
-          → (if t then Some (suc place) else place_from (suc (suc place)) name list) ≡ option_map suc (if t then Some place else place_from (suc place) name list)
+          → (if t then Some (suc place) else place_from (suc (suc place)) name list)
+          ≡ option_map suc (if t then Some place else place_from (suc place) name list)
       go true rest = refl
       go false rest = rest
 

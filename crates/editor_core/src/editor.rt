@@ -230,7 +230,8 @@ impl Editor {
         requires { IsCurrent (λ object. gives (object.vtable, object.value)) self.old }
         ensures current { IsCurrent (λ object. gives (object.vtable, object.value)) self.new }
         ensures moves { Moves (machine.select_view (anchor.now.path ++ anchor.now.offset ∷ []) (focus.now.path ++ focus.now.offset ∷ [])
-            (machine_of (λ object. gives (object.vtable, object.value)) self.old)) (machine_of (λ object. gives (object.vtable, object.value)) self.new) result }
+            (machine_of (λ object. gives (object.vtable, object.value)) self.old)) (machine_of (λ object. gives (object.vtable, object.value)) self.new)
+            result }
         ensures stays { OnErr result (self.new ≡ self.old) }
     {
         if self.accepted == MOST_CHANGES {
@@ -275,7 +276,8 @@ impl Editor {
         requires { IsCurrent (λ object. gives (object.vtable, object.value)) self.now }
         ensures content { content result.now.nodes ≡ downcast (conversion_in (λ object. gives (object.vtable, object.value)) self.now) (document_in self.now) }
         ensures numbered { uncounted result.now.nodes
-            ≡ uncounted (numbered_downcast (numbers_in self.now) (conversion_in (λ object. gives (object.vtable, object.value)) self.now) (document_in self.now)) }
+            ≡ uncounted (numbered_downcast (numbers_in self.now) (conversion_in (λ object. gives (object.vtable, object.value)) self.now)
+            (document_in self.now)) }
     {
         &self.view
     }
@@ -294,7 +296,8 @@ impl Editor {
     pub fn shown_selection(&self, alloc: Global) -> Result<(ViewPlace, ViewPlace), NoMemory>
         requires { IsCurrent (λ object. gives (object.vtable, object.value)) self.now }
         ensures start { IfOk result (λ both. both.0.path ++ both.0.offset ∷ []
-            ≡ seen (conversion_in (λ object. gives (object.vtable, object.value)) self.now) (document_in self.now) (document_in self.now).selection.range.start) }
+            ≡ seen (conversion_in (λ object. gives (object.vtable, object.value)) self.now) (document_in self.now)
+            (document_in self.now).selection.range.start) }
         ensures end { IfOk result (λ both. both.1.path ++ both.1.offset ∷ []
             ≡ seen (conversion_in (λ object. gives (object.vtable, object.value)) self.now) (document_in self.now) (document_in self.now).selection.range.end) }
     {

@@ -34,7 +34,8 @@ fn place_of(converters: &[NamedConverter], name: &Name) -> Option<usize>
 fn take_named(converters: &mut Vec<NamedConverter>, name: &Name) -> Option<Box<dyn Converter>>
     ensures object { option_map (λ object. gives object) result ≡ giving_of (givings_of (λ object. gives object) converters.old.items) name.now }
     ensures others { (other : List ℕ) → bytes_eq name.now other ≡ false
-        → giving_of (givings_of (λ object. gives object) converters.new.items) other ≡ giving_of (givings_of (λ object. gives object) converters.old.items) other }
+        → giving_of (givings_of (λ object. gives object) converters.new.items) other
+        ≡ giving_of (givings_of (λ object. gives object) converters.old.items) other }
 {
     match place_of(converters.as_slice(), name) {
         Some(place) => Some(converters.remove(place).object),
@@ -50,10 +51,13 @@ fn add_plan(
 ) -> Result<(), NoMemory>
     requires { IsThere plan.entry (givings_of (λ object. gives object) converters.old.items) }
     ensures ok { OnOk result (listed_of (λ object. gives object) list.new
-        ≡ added (plan.priority, converter_of (givings_of (λ object. gives object) converters.old.items) plan.entry) (listed_of (λ object. gives object) list.old)) }
-    ensures rest { record (conversion_of (λ object. gives object) list.new) { converters = [] } ≡ record (conversion_of (λ object. gives object) list.old) { converters = [] } }
+        ≡ added (plan.priority, converter_of (givings_of (λ object. gives object) converters.old.items) plan.entry)
+        (listed_of (λ object. gives object) list.old)) }
+    ensures rest { record (conversion_of (λ object. gives object) list.new) { converters = [] }
+        ≡ record (conversion_of (λ object. gives object) list.old) { converters = [] } }
     ensures others { (other : List ℕ) → is_custom plan.entry other ≡ false
-        → giving_of (givings_of (λ object. gives object) converters.new.items) other ≡ giving_of (givings_of (λ object. gives object) converters.old.items) other }
+        → giving_of (givings_of (λ object. gives object) converters.new.items) other
+        ≡ giving_of (givings_of (λ object. gives object) converters.old.items) other }
 {
     let ConverterPlan { priority, entry } = plan;
     match entry {
@@ -74,7 +78,8 @@ fn with_plans(
     requires { AreHandedIn plans.items (givings_of (λ object. gives object) converters.items) }
     ensures converters { IfOk result (λ made. listed_of (λ object. gives object) made
         ≡ all_added (givings_of (λ object. gives object) converters.items) (listed_of (λ object. gives object) list) plans.items) }
-    ensures rest { IfOk result (λ made. record (conversion_of (λ object. gives object) made) { converters = [] } ≡ record (conversion_of (λ object. gives object) list) { converters = [] }) }
+    ensures rest { IfOk result (λ made. record (conversion_of (λ object. gives object) made) { converters = [] }
+        ≡ record (conversion_of (λ object. gives object) list) { converters = [] }) }
 {
     let mut list = list;
     let mut converters = converters;

@@ -42,7 +42,8 @@ pub fn position_of(
 ) -> Result<Position, Refusal>
     ensures ok { IfOk result (λ position. Means mapper.now view.now.nodes (place.now.path ++ place.now.offset ∷ []) (Some position)) }
     ensures refused { IfErr result (λ refusal. refusal ≢ Refusal.NoMemory
-        → (refusal ≡ Refusal.NotInView (place.now.path ++ place.now.offset ∷ [])) × Means mapper.now view.now.nodes (place.now.path ++ place.now.offset ∷ []) None) }
+        → (refusal ≡ Refusal.NotInView (place.now.path ++ place.now.offset ∷ []))
+        × Means mapper.now view.now.nodes (place.now.path ++ place.now.offset ∷ []) None) }
 {
     match mapper.to_model(alloc, view, place) {
         Ok(position) => Ok(position),

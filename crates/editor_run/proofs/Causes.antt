@@ -1,5 +1,6 @@
 -- Why a run ends with a status of its own.
-use Rattle.std.proofs.Common.{◌≡◌, ◌≢◌, ◌⊎◌, inl, inr, ℕ, List, length, Bool, true, false, if◌then◌else◌, Option, Some, None, Result, Ok, Err, IfSome, nat_lt, refl, sym, ap, ◌∙◌, arith}
+use Rattle.std.proofs.Common.{◌≡◌, ◌≢◌, ◌⊎◌, inl, inr, ℕ, List, length, Bool, true, false, if◌then◌else◌, Option, Some, None, Result, Ok, Err, IfSome, nat_lt}
+use Rattle.std.proofs.Common.{refl, sym, ap, ◌∙◌, arith}
 use Rattle.ck_base.specs.declared.faults.Refusal.{Refusal}
 use Rattle.document_definitions.specs.Document.{Document}
 use Rattle.settings_definitions.specs.Settings.{Settings, settings_of}
@@ -8,7 +9,8 @@ use Rattle.step_definitions.specs.Step.{opened}
 use Rattle.program_definitions.specs.Converters.{Givings, names_of}
 use Rattle.program_definitions.specs.Task.{Task, run, check, task_of, settings_name}
 use Rattle.program_definitions.specs.Machine.{Config, Machine, answers}
-use Rattle.program_definitions.specs.Output.{Outcome, silent, finished, done, script_outcome, begun, machine_of, machine_from, config_of, outcome_of, output, most_script_bytes, most_settings_bytes}
+use Rattle.program_definitions.specs.Output.{Outcome, silent, finished, done, script_outcome, begun, machine_of, machine_from, config_of, outcome_of, output}
+use Rattle.program_definitions.specs.Output.{most_script_bytes, most_settings_bytes}
 use Rattle.machine_definitions.specs.Lines.{lines_of}
 use Rattle.editor_run.specs.declared.run.Status.{Status}
 use Rattle.editor_run.specs.declared.run.Status.TheVariants.{Finished, Refused, BadWords, NoMemory, NotFetched, NotWritten, TooLarge}
@@ -40,12 +42,14 @@ module _ (givings : Givings) (held : List ℕ → Option (List ℕ)) (task : Tas
   bytes_four None e = inl refl
   bytes_four (Some bytes) e = go (nat_lt most_settings_bytes (length bytes)) e
     where
-      go : (large : Bool) → (finished held task (if large then Err (silent 6) else machine_of givings (settings_of (names_of givings) bytes))).status ≡ 4 → (Some bytes ≡ None) ⊎ IsDone
+      go : (large : Bool) → (finished held task (if large then Err (silent 6) else machine_of givings (settings_of (names_of givings) bytes))).status
+          ≡ 4 → (Some bytes ≡ None) ⊎ IsDone
       go true e = absurd (omega (arith, e))
       go false e = inr (settings_four (settings_of (names_of givings) bytes) e)
 
 -- a run ends with 4 only where a file that the words name isn't held
-four_missing : (givings : Givings) (held : List ℕ → Option (List ℕ)) (asked : Option Task) → (outcome_of givings held asked).status ≡ 4 → IsMissing (Some held) asked
+four_missing : (givings : Givings) (held : List ℕ → Option (List ℕ)) (asked : Option Task) → (outcome_of givings held asked).status ≡ 4
+    → IsMissing (Some held) asked
 four_missing givings held None e = absurd (omega (arith, e))
 four_missing givings held (Some (run settings script)) e = go (bytes_four givings held (run settings script) (held settings) e)
   where

@@ -1,5 +1,6 @@
 -- How the ends of runs follow from what was written.
-use Rattle.std.proofs.Common.{◌≡◌, ◌≢◌, ◌⊎◌, inl, inr, ℕ, List, [], Option, Some, None, Result, Ok, Err, IfSome, IfNone, string_bytes, refl, sym, ap, subst, ◌∙◌}
+use Rattle.std.proofs.Common.{◌≡◌, ◌≢◌, ◌⊎◌, inl, inr, ℕ, List, [], Option, Some, None, Result, Ok, Err, IfSome, IfNone, string_bytes, refl, sym, ap, subst}
+use Rattle.std.proofs.Common.{◌∙◌}
 use Rattle.ck_io.specs.Rose.{Rose}
 use Rattle.ck_io.proofs.Written.{append_known-nil}
 use Rattle.program_definitions.specs.Task.{Task}
@@ -41,7 +42,8 @@ module _ (calls : Calls) (wanted : (List ℕ → Option (List ℕ)) → Outcome)
       → Tells text ended calls.written calls.written_then calls.writes calls.writes_then status → Ends calls wanted status
   ends_told text ended status is fetched small tells = record {
     output = all_held calls.held (λ held. wanted held ≡ record { bytes = text; status = status_code ended })
-        (λ held. status ≢ NoMemory → status ≢ NotWritten → (status ≡ NotFetched → IsFetched calls) → IsOutcome calls.written calls.written_then (status_code status) (wanted held)) is
+        (λ held. status ≢ NoMemory → status ≢ NotWritten → (status ≡ NotFetched → IsFetched calls)
+        → IsOutcome calls.written calls.written_then (status_code status) (wanted held)) is
         (λ held e memory written calm. (let whole = tells.whole memory written in
         subst (IsOutcome calls.written calls.written_then (status_code status)) (sym e) (ap status_code whole.0, whole.1)));
     part = all_held calls.held (λ held. wanted held ≡ record { bytes = text; status = status_code ended })
@@ -56,7 +58,8 @@ module _ (calls : Calls) (wanted : (List ℕ → Option (List ℕ)) → Outcome)
   module _ (nothing : calls.written_then ≡ calls.written) where
     front : IfSome calls.held (λ held. SendsFront calls.written calls.written_then (wanted held).bytes)
     front = any_held calls.held (λ held. SendsFront calls.written calls.written_then (wanted held).bytes)
-        (λ held. subst (λ new. SendsFront calls.written new (wanted held).bytes) (sym nothing) ((wanted held).bytes, sends_none calls.written (wanted held).bytes))
+        (λ held. subst (λ new. SendsFront calls.written new (wanted held).bytes) (sym nothing)
+        ((wanted held).bytes, sends_none calls.written (wanted held).bytes))
 
     -- nothing was written, for want of memory,
     pub ends_out_of_memory : Ends calls wanted NoMemory
@@ -74,10 +77,12 @@ module _ (calls : Calls) (wanted : (List ℕ → Option (List ℕ)) → Outcome)
     silent_so code held e = subst (IsOutcome calls.written calls.written_then code) (sym e) (refl, nothing ∙ sym (append_known-nil calls.written))
 
     -- since a file can't be had,
-    pub ends_unfetched : IfSome calls.held (λ held. IsFetched calls → wanted held ≡ silent 4) → (IsFetched calls → IsTelling calls.held) → Ends calls wanted NotFetched
+    pub ends_unfetched : IfSome calls.held (λ held. IsFetched calls → wanted held ≡ silent 4) → (IsFetched calls → IsTelling calls.held)
+        → Ends calls wanted NotFetched
     ends_unfetched is told = record {
       output = all_held calls.held (λ held. IsFetched calls → wanted held ≡ silent 4)
-          (λ held. NotFetched ≢ NoMemory → NotFetched ≢ NotWritten → (NotFetched ≡ NotFetched → IsFetched calls) → IsOutcome calls.written calls.written_then 4 (wanted held)) is
+          (λ held. NotFetched ≢ NoMemory → NotFetched ≢ NotWritten → (NotFetched ≡ NotFetched → IsFetched calls)
+          → IsOutcome calls.written calls.written_then 4 (wanted held)) is
           (λ held e memory written calm. silent_so 4 held (e (calm refl)));
       part = front;
       not_fetched = λ e. nothing;
@@ -90,7 +95,8 @@ module _ (calls : Calls) (wanted : (List ℕ → Option (List ℕ)) → Outcome)
     pub ends_too_large : IfSome calls.held (λ held. wanted held ≡ silent 6) → Ends calls wanted TooLarge
     ends_too_large is = record {
       output = all_held calls.held (λ held. wanted held ≡ silent 6)
-          (λ held. TooLarge ≢ NoMemory → TooLarge ≢ NotWritten → (TooLarge ≡ NotFetched → IsFetched calls) → IsOutcome calls.written calls.written_then 6 (wanted held)) is
+          (λ held. TooLarge ≢ NoMemory → TooLarge ≢ NotWritten → (TooLarge ≡ NotFetched → IsFetched calls)
+          → IsOutcome calls.written calls.written_then 6 (wanted held)) is
           (λ held e memory written calm. silent_so 6 held e);
       part = front;
       not_fetched = λ e. absurd cc;
@@ -101,12 +107,15 @@ module _ (calls : Calls) (wanted : (List ℕ → Option (List ℕ)) → Outcome)
 
 -- the end of a run that wants what another one does, and has made the same calls
 pub ends_as : (calls calls_too : Calls) (wanted wanted_too : (List ℕ → Option (List ℕ)) → Outcome) (status status_too : Status)
-    → calls ≡ calls_too → status ≡ status_too → IfSome calls.held (λ held. wanted held ≡ wanted_too held) → Ends calls wanted status → Ends calls_too wanted_too status_too
+    → calls ≡ calls_too → status ≡ status_too → IfSome calls.held (λ held. wanted held ≡ wanted_too held) → Ends calls wanted status
+    → Ends calls_too wanted_too status_too
 ends_as calls calls_too wanted wanted_too status status_too same s is ends =
     subst (λ calls. Ends calls wanted_too status_too) same (subst (λ status. Ends calls wanted_too status) s (record {
       output = both calls.held (λ held. wanted held ≡ wanted_too held)
-          (λ held. status ≢ NoMemory → status ≢ NotWritten → (status ≡ NotFetched → IsFetched calls) → IsOutcome calls.written calls.written_then (status_code status) (wanted held))
-          (λ held. status ≢ NoMemory → status ≢ NotWritten → (status ≡ NotFetched → IsFetched calls) → IsOutcome calls.written calls.written_then (status_code status) (wanted_too held))
+          (λ held. status ≢ NoMemory → status ≢ NotWritten → (status ≡ NotFetched → IsFetched calls)
+          → IsOutcome calls.written calls.written_then (status_code status) (wanted held))
+          (λ held. status ≢ NoMemory → status ≢ NotWritten → (status ≡ NotFetched → IsFetched calls)
+          → IsOutcome calls.written calls.written_then (status_code status) (wanted_too held))
           is ends.output (λ held e so memory written calm. subst (IsOutcome calls.written calls.written_then (status_code status)) e (so memory written calm));
       part = both calls.held (λ held. wanted held ≡ wanted_too held) (λ held. SendsFront calls.written calls.written_then (wanted held).bytes)
           (λ held. SendsFront calls.written calls.written_then (wanted_too held).bytes)
@@ -117,7 +126,8 @@ ends_as calls calls_too wanted wanted_too status status_too same s is ends =
       too_large = ends.too_large;
     }))
   where
-    both : {Held : Type 0} (holds : Option Held) (P Q R : Held → Type 0) → IfSome holds P → IfSome holds Q → ((held : Held) → P held → Q held → R held) → IfSome holds R
+    both : {Held : Type 0} (holds : Option Held) (P Q R : Held → Type 0) → IfSome holds P → IfSome holds Q → ((held : Held) → P held → Q held → R held)
+        → IfSome holds R
     both None P Q R p q so = tt
     both (Some held) P Q R p q so = so held p q
 
@@ -140,16 +150,19 @@ ends_unopened calls wanted task ends.NoMemory status is had told =
     subst (Ends calls (λ held. finished held task (wanted held))) (sym told.0) (ends_out_of_memory calls (λ held. finished held task (wanted held)) told.1)
 ends_unopened calls wanted task ends.NotFetched status is had told =
     subst (Ends calls (λ held. finished held task (wanted held))) (sym told.0) (ends_unfetched calls (λ held. finished held task (wanted held)) told.1
-    (all_held calls.held (λ held. (ends.NotFetched ≡ ends.NotFetched → IsFetched calls) → wanted held ≡ Err (silent 4)) (λ held. IsFetched calls → finished held task (wanted held) ≡ silent 4) is
+    (all_held calls.held (λ held. (ends.NotFetched ≡ ends.NotFetched → IsFetched calls) → wanted held ≡ Err (silent 4)) (λ held. IsFetched calls
+    → finished held task (wanted held) ≡ silent 4) is
     (λ held e calm. ap (finished held task) (e (λ same. calm))))
     (had refl))
 ends_unopened calls wanted task ends.TooLarge status is had told =
     subst (Ends calls (λ held. finished held task (wanted held))) (sym told.0) (ends_too_large calls (λ held. finished held task (wanted held)) told.1
-    (all_held calls.held (λ held. (ends.TooLarge ≡ ends.NotFetched → IsFetched calls) → wanted held ≡ Err (silent 6)) (λ held. finished held task (wanted held) ≡ silent 6) is
+    (all_held calls.held (λ held. (ends.TooLarge ≡ ends.NotFetched → IsFetched calls) → wanted held ≡ Err (silent 6))
+    (λ held. finished held task (wanted held) ≡ silent 6) is
     (λ held e. ap (finished held task) (e (λ same. absurd cc)))))
 ends_unopened calls wanted task (ends.Refused text) status is had told =
     ends_told calls (λ held. finished held task (wanted held)) (string_bytes text) Refused status
     (all_held calls.held (λ held. (ends.Refused text ≡ ends.NotFetched → IsFetched calls) → wanted held ≡ Err (refused (string_bytes text)))
     (λ held. finished held task (wanted held) ≡ refused (string_bytes text)) is
     (λ held e. ap (finished held task) (e (λ same. absurd cc))))
-    (either_other Refused NotWritten NotFetched status (λ a. absurd cc) (λ a. absurd cc) told.1) (either_other Refused NotWritten TooLarge status (λ a. absurd cc) (λ a. absurd cc) told.1) told.0
+    (either_other Refused NotWritten NotFetched status (λ a. absurd cc) (λ a. absurd cc) told.1)
+    (either_other Refused NotWritten TooLarge status (λ a. absurd cc) (λ a. absurd cc) told.1) told.0

@@ -13,7 +13,8 @@ in_front [] lines = lines
 in_front (byte ∷ bytes) lines = in_first_line byte (in_front bytes lines)
 
 -- one more byte in front
-pub in_front_more : (front : List ℕ) (byte : ℕ) (rest : List ℕ) → byte ≢ 10 → in_front (front ++ byte ∷ []) (lines_of rest) ≡ in_front front (lines_of (byte ∷ rest))
+pub in_front_more : (front : List ℕ) (byte : ℕ) (rest : List ℕ) → byte ≢ 10 → in_front (front ++ byte ∷ []) (lines_of rest)
+    ≡ in_front front (lines_of (byte ∷ rest))
 in_front_more [] byte rest other = rw (ne_eqb byte 10 other) refl
 in_front_more (b ∷ front) byte rest other = ap (in_first_line b) (in_front_more front byte rest other)
 
@@ -43,11 +44,13 @@ next_byte : (text : List ℕ) (i : ℕ) → i < length text → drop i text ≡ 
 next_byte text i within = rw add-one (drop-cons text i 0 within)
 
 -- at a line feed
-pub line_ends : (text : List ℕ) (i : ℕ) → i < length text → get_or text i 0 ≡ 10 → NoneBefore text i → lines_of text ≡ take i text ∷ lines_of (take (length text - (i + 1)) (drop (i + 1) text))
+pub line_ends : (text : List ℕ) (i : ℕ) → i < length text → get_or text i 0 ≡ 10 → NoneBefore text i
+    → lines_of text ≡ take i text ∷ lines_of (take (length text - (i + 1)) (drop (i + 1) text))
 line_ends text i within feed before =
     let next : drop i text ≡ 10 ∷ drop (i + 1) text = next_byte text i within ∙ ap (λ b. b ∷ drop (i + 1) text) feed in
     let rest : take (length text - (i + 1)) (drop (i + 1) text) ≡ drop (i + 1) text = take_rest text (i + 1) in
-    sym before ∙ ap (λ xs. in_front (take i text) (lines_of xs)) next ∙ first_line_feed (take i text) (drop (i + 1) text) ∙ ap (λ xs. take i text ∷ lines_of xs) (sym rest)
+    sym before ∙ ap (λ xs. in_front (take i text) (lines_of xs)) next ∙ first_line_feed (take i text) (drop (i + 1) text)
+    ∙ ap (λ xs. take i text ∷ lines_of xs) (sym rest)
 
 -- at another byte
 pub line_goes_on : (text : List ℕ) (i : ℕ) → i < length text → get_or text i 0 ≢ 10 → NoneBefore text i → NoneBefore text (i + 1)
@@ -58,7 +61,9 @@ line_goes_on text i within other before =
     ∙ before
 
 -- at the end of the text
-pub line_is_last : (text : List ℕ) → 0 < length text → NoneBefore text (length text) → lines_of text ≡ text ∷ lines_of (take (length text - length text) (drop (length text) text))
+pub line_is_last : (text : List ℕ) → 0 < length text → NoneBefore text (length text)
+    → lines_of text ≡ text ∷ lines_of (take (length text - length text) (drop (length text) text))
 line_is_last text some before =
     let rest : take (length text - length text) (drop (length text) text) ≡ [] = take_rest text (length text) ∙ drop-length text in
-    sym before ∙ ap (λ xs. in_front (take (length text) text) (lines_of xs)) (drop-length text) ∙ ap (λ xs. in_front xs []) (take-length text) ∙ last_line text some ∙ ap (λ xs. text ∷ lines_of xs) (sym rest)
+    sym before ∙ ap (λ xs. in_front (take (length text) text) (lines_of xs)) (drop-length text) ∙ ap (λ xs. in_front xs []) (take-length text)
+    ∙ last_line text some ∙ ap (λ xs. text ∷ lines_of xs) (sym rest)

@@ -1,5 +1,6 @@
 -- The machine of a settings file's bytes that are held, and the editor that is opened.
-use Rattle.std.proofs.Common.{◌≡◌, ℕ, ◌≤◌, List, length, false, if◌then◌else◌, Option, Some, None, Result, Ok, Err, IfOk, IfErr, IfSome, Global, nat_lt, sym, ap, subst, ◌∙◌, arith}
+use Rattle.std.proofs.Common.{◌≡◌, ℕ, ◌≤◌, List, length, false, if◌then◌else◌, Option, Some, None, Result, Ok, Err, IfOk, IfErr, IfSome, Global, nat_lt, sym}
+use Rattle.std.proofs.Common.{ap, subst, ◌∙◌, arith}
 use Rattle.std.proofs.lemmas.Bool.Decides.{nat_tests}
 use Rattle.std.specs.declared.dyn_box.DynBox.{DynBox}
 use Rattle.converter_definitions.specs.Gives.{Giving}
@@ -11,7 +12,8 @@ use Rattle.editor_core.specs.AsMachine as editors
 use Rattle.editor_run.specs.Unopened.{IsEnd, Opens}
 use Rattle.editor_run.specs.declared.opening.Unopened.{Unopened}
 
-module _ {X : Type 0} {Y : X → Type 0} (gives : DynBox X Global Y → Giving) (givings : Givings) (bytes : List ℕ) (fits : length bytes ≤ most_settings_bytes) where
+module _ {X : Type 0} {Y : X → Type 0} (gives : DynBox X Global Y → Giving) (givings : Givings) (bytes : List ℕ) (fits : length bytes
+    ≤ most_settings_bytes) where
   small : nat_lt most_settings_bytes (length bytes) ≡ false
   small = grind (arith, nat_tests)
 
@@ -30,7 +32,8 @@ module _ {X : Type 0} {Y : X → Type 0} (gives : DynBox X Global Y → Giving) 
         go (Some held) e = ap (machine_from givings) e ∙ machine_is ∙ opens.0
     opened_ok (Err fault) opens = tt
 
-    pub opened_err : (Calm : Unopened → Type 0) (result : Result (Editor X Y) Unopened) → Opens gives (machine_of givings (settings_of (names_of givings) bytes)) result
+    pub opened_err : (Calm : Unopened → Type 0) (result : Result (Editor X Y) Unopened)
+        → Opens gives (machine_of givings (settings_of (names_of givings) bytes)) result
         → IfErr result (λ fault. IfSome holds (λ held. Calm fault → IsEnd fault (machine_from givings (held name))))
     opened_err Calm (Ok editor) opens = tt
     opened_err Calm (Err fault) opens = go holds found

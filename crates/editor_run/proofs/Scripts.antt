@@ -1,5 +1,6 @@
 -- The outcome of a script, by what is held under its name.
-use Rattle.std.proofs.Common.{◌≡◌, ℕ, ◌<◌, ◌≤◌, List, length, Bool, true, false, if◌then◌else◌, Option, Some, None, IfSome, IsSomeAnd, nat_lt, sym, ap, ◌∙◌, arith}
+use Rattle.std.proofs.Common.{◌≡◌, ℕ, ◌<◌, ◌≤◌, List, length, Bool, true, false, if◌then◌else◌, Option, Some, None, IfSome, IsSomeAnd, nat_lt, sym, ap, ◌∙◌}
+use Rattle.std.proofs.Common.{arith}
 use Rattle.std.proofs.lemmas.Bool.Decides.{nat_tests}
 use Rattle.machine_definitions.specs.Lines.{lines_of}
 use Rattle.program_definitions.specs.Machine.{Machine, answers}
@@ -9,7 +10,8 @@ abbrev by_size : Machine → List ℕ → Bool → Outcome
 by_size machine script large = if large then silent 6 else record { bytes = answers machine 1 (lines_of script); status = 0 }
 
 -- one that is held and isn't over its limit
-fits_so : (machine : Machine) (script : List ℕ) → length script ≤ most_script_bytes → script_outcome machine (Some script) ≡ record { bytes = answers machine 1 (lines_of script); status = 0 }
+fits_so : (machine : Machine) (script : List ℕ) → length script ≤ most_script_bytes → script_outcome machine (Some script)
+    ≡ record { bytes = answers machine 1 (lines_of script); status = 0 }
 fits_so machine script few =
     let small : nat_lt most_script_bytes (length script) ≡ false = grind (arith, nat_tests) in
     ap (by_size machine script) small
@@ -21,7 +23,8 @@ script_fits machine script name None few found = tt
 script_fits machine script name (Some held) few found = ap (script_outcome machine) found ∙ fits_so machine script few
 
 -- one that is held and is over it
-large_so : (machine : Machine) (found : Option (List ℕ)) → IsSomeAnd found (λ script. most_script_bytes < length script) → script_outcome machine found ≡ silent 6
+large_so : (machine : Machine) (found : Option (List ℕ)) → IsSomeAnd found (λ script. most_script_bytes < length script) → script_outcome machine found
+    ≡ silent 6
 large_so machine (Some script) many =
     let large : nat_lt most_script_bytes (length script) ≡ true = grind (arith, nat_tests) in
     ap (by_size machine script) large

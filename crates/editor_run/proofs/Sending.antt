@@ -1,5 +1,6 @@
 -- An output that is written piece by piece.
-use Rattle.std.proofs.Common.{◌≡◌, ℕ, ◌+◌, None, Some, IfSome, length, arith, List, [], ◌∷◌, ◌++◌, Option, take, drop, refl, sym, ap, subst, ◌∙◌, append-nil, append_assoc}
+use Rattle.std.proofs.Common.{◌≡◌, ℕ, ◌+◌, None, Some, IfSome, length, arith, List, [], ◌∷◌, ◌++◌, Option, take, drop, refl, sym, ap, subst, ◌∙◌, append-nil}
+use Rattle.std.proofs.Common.{append_assoc}
 use Rattle.std.proofs.lemmas.List.{take-append-drop}
 use Rattle.std.specs.Io.KnownBytes.{append_known}
 use Rattle.ck_io.proofs.Written.{append_known-append, append_known-nil}
@@ -12,7 +13,8 @@ pub sends_none : (known : Option (List ℕ)) (all : List ℕ) → SendsUpTo know
 sends_none known all = ([], sym (append_known-nil known), refl)
 
 -- the next piece was written
-pub sends_piece : (old mid new : Option (List ℕ)) (all piece rest : List ℕ) → SendsUpTo old mid all (piece ++ rest) → new ≡ append_known mid piece → SendsUpTo old new all rest
+pub sends_piece : (old mid new : Option (List ℕ)) (all piece rest : List ℕ) → SendsUpTo old mid all (piece ++ rest) → new ≡ append_known mid piece
+    → SendsUpTo old new all rest
 sends_piece old mid new all piece rest h e = (
   h.0 ++ piece,
   e ∙ ap (λ known. append_known known piece) h.1 ∙ append_known-append old h.0 piece,
@@ -20,9 +22,11 @@ sends_piece old mid new all piece rest h e = (
 )
 
 -- a front of the next piece was written
-pub sends_part : (old mid new : Option (List ℕ)) (all piece rest : List ℕ) (count : ℕ) → SendsUpTo old mid all (piece ++ rest) → new ≡ append_known mid (take count piece) → SendsFront old new all
+pub sends_part : (old mid new : Option (List ℕ)) (all piece rest : List ℕ) (count : ℕ) → SendsUpTo old mid all (piece ++ rest)
+    → new ≡ append_known mid (take count piece) → SendsFront old new all
 sends_part old mid new all piece rest count h e =
-    let cut : take count piece ++ (drop count piece ++ rest) ≡ piece ++ rest = sym (append_assoc (take count piece) (drop count piece) rest) ∙ ap (λ xs. xs ++ rest) (take-append-drop count piece) in
+    let cut : take count piece ++ (drop count piece ++ rest) ≡ piece ++ rest = sym (append_assoc (take count piece) (drop count piece) rest)
+    ∙ ap (λ xs. xs ++ rest) (take-append-drop count piece) in
     let whole : SendsUpTo old mid all (take count piece ++ (drop count piece ++ rest)) = (h.0, h.1, ap (λ xs. h.0 ++ xs) cut ∙ h.2) in
     (drop count piece ++ rest, sends_piece old mid new all (take count piece) (drop count piece ++ rest) whole e)
 
@@ -31,7 +35,8 @@ pub sends_all : (old new : Option (List ℕ)) (all : List ℕ) → SendsUpTo old
 sends_all old new all h = h.1 ∙ ap (append_known old) (sym (append-nil h.0) ∙ h.2)
 
 -- the answers to the lines of a text, from its first line on
-pub answers_next : (machine : Machine) (number : ℕ) (text line rest : List ℕ) → lines_of text ≡ line ∷ lines_of rest → answers machine number (lines_of text) ≡ (answer machine number line).text ++ answers (answer machine number line).machine (number + 1) (lines_of rest)
+pub answers_next : (machine : Machine) (number : ℕ) (text line rest : List ℕ) → lines_of text ≡ line ∷ lines_of rest
+    → answers machine number (lines_of text) ≡ (answer machine number line).text ++ answers (answer machine number line).machine (number + 1) (lines_of rest)
 unfolding answers
 answers_next machine number text line rest e = ap (answers machine number) e
 
@@ -69,7 +74,8 @@ sends_to_end old new all machine number [] none sends = sends_all old new all se
 sends_to_end old new all machine number (b ∷ text) none sends = absurd (omega arith)
 
 -- nothing was written, whatever is held
-pub sends_nothing : {Held : Type 0} (known : Option (List ℕ)) (holds : Option Held) (all : Held → List ℕ) → IfSome holds (λ held. SendsFront known known (all held))
+pub sends_nothing : {Held : Type 0} (known : Option (List ℕ)) (holds : Option Held) (all : Held → List ℕ)
+    → IfSome holds (λ held. SendsFront known known (all held))
 sends_nothing known None all = tt
 sends_nothing known (Some held) all = (all held, sends_none known (all held))
 
@@ -78,7 +84,8 @@ pub held_so : {Held : Type 0} (holds : Option Held) (P R : Held → Type 0) → 
 held_so None P R p so = tt
 held_so (Some held) P R p so = so held p
 
-pub held_both : {Held : Type 0} (holds later : Option Held) (P Q R : Held → Type 0) → later ≡ holds → IfSome holds P → IfSome later Q → ((held : Held) → P held → Q held → R held) → IfSome holds R
+pub held_both : {Held : Type 0} (holds later : Option Held) (P Q R : Held → Type 0) → later ≡ holds → IfSome holds P → IfSome later Q
+    → ((held : Held) → P held → Q held → R held) → IfSome holds R
 held_both {Held = Held} holds later P Q R same p q so = both holds (subst (λ told. IfSome told Q) same q) p
   where
     both : (told : Option Held) → IfSome told Q → IfSome told P → IfSome told R

@@ -21,6 +21,7 @@ machine_in other (Ok machine) = machine
 machine_in other (Err refusal) = other
 
 -- and one that is not begins it
-pub opened_document : (config : Config) (made : Result Document Refusal) (machine : Machine) → openings.begun config made ≡ Ok machine → begun config made ≡ Ok machine
+pub opened_document : (config : Config) (made : Result Document Refusal) (machine : Machine) → openings.begun config made ≡ Ok machine
+    → begun config made ≡ Ok machine
 opened_document config (Ok document) machine e = ap Ok (ap (machine_in machine) e)
 opened_document config (Err refusal) machine e = absurd cc

@@ -11,7 +11,8 @@ three_words (a ∷ b ∷ c ∷ []) d e h = refl
 three_words (a ∷ b ∷ c ∷ f ∷ rest) d e h = absurd (omega arith)
 
 pub four_words : (words : List (String Global)) (d e f : String Global) → length words ≡ 4
-    → task_of (map string_bytes words) ≡ run_task (string_bytes (slice_index_or words 1 d)) (string_bytes (slice_index_or words 2 e)) (string_bytes (slice_index_or words 3 f))
+    → task_of (map string_bytes words) ≡ run_task (string_bytes (slice_index_or words 1 d)) (string_bytes (slice_index_or words 2 e))
+    (string_bytes (slice_index_or words 3 f))
 four_words [] d e f h = absurd (omega arith)
 four_words (a ∷ []) d e f h = absurd (omega arith)
 four_words (a ∷ b ∷ []) d e f h = absurd (omega arith)

@@ -42,7 +42,8 @@ pub enum Unopened {
 
 /// The end where settings are refused.
 fn settings_end(alloc: Global, fault: SettingsFault) -> Unopened
-    ensures ends { (wanted : Result Machine Outcome) → (fault ≢ SettingsFault.NoMemory → wanted ≡ Err (refused (refused_settings fault))) → IsEnd result wanted }
+    ensures ends { (wanted : Result Machine Outcome) → (fault ≢ SettingsFault.NoMemory → wanted ≡ Err (refused (refused_settings fault)))
+        → IsEnd result wanted }
     ensures read { result ≢ Unopened.NotFetched }
 {
     match refused_settings(alloc, fault) {

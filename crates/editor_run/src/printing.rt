@@ -60,7 +60,8 @@ fn both_lines(alloc: Global, number: u64, model: &str, view: &str) -> Result<Str
 /// The printed view of a document, without its selection.
 fn plain_view(alloc: Global, editor: &Editor) -> Result<String, NoMemory>
     requires { IsCurrent (λ object. gives (object.vtable, object.value)) editor.now }
-    ensures { IfOk result (λ text. string_bytes text ≡ view_text None (downcast (conversion_in (λ object. gives (object.vtable, object.value)) editor.now) (document_in editor.now))) }
+    ensures { IfOk result (λ text. string_bytes text
+        ≡ view_text None (downcast (conversion_in (λ object. gives (object.vtable, object.value)) editor.now) (document_in editor.now))) }
 {
     view_text(alloc, editor.view(), None)
 }
@@ -68,7 +69,8 @@ fn plain_view(alloc: Global, editor: &Editor) -> Result<String, NoMemory>
 /// The printed view of a document, with the marks of its selection.
 fn selected_view(alloc: Global, editor: &Editor) -> Result<String, NoMemory>
     requires { IsCurrent (λ object. gives (object.vtable, object.value)) editor.now }
-    ensures { IfOk result (λ text. string_bytes text ≡ view_text (Some (seen_ends (conversion_in (λ object. gives (object.vtable, object.value)) editor.now) (document_in editor.now)))
+    ensures { IfOk result (λ text. string_bytes text
+        ≡ view_text (Some (seen_ends (conversion_in (λ object. gives (object.vtable, object.value)) editor.now) (document_in editor.now)))
         (downcast (conversion_in (λ object. gives (object.vtable, object.value)) editor.now) (document_in editor.now))) }
 {
     let places = editor.shown_selection(alloc)?;
@@ -78,7 +80,8 @@ fn selected_view(alloc: Global, editor: &Editor) -> Result<String, NoMemory>
 /// A document without its selection.
 fn plain_lines(alloc: Global, number: u64, editor: &Editor) -> Result<String, NoMemory>
     requires { IsCurrent (λ object. gives (object.vtable, object.value)) editor.now }
-    ensures { IfOk result (λ text. string_bytes text ≡ shown_lines (conversion_in (λ object. gives (object.vtable, object.value)) editor.now) number false (document_in editor.now)) }
+    ensures { IfOk result (λ text. string_bytes text ≡ shown_lines (conversion_in (λ object. gives (object.vtable, object.value)) editor.now) number
+        false (document_in editor.now)) }
 {
     let model = model_text(alloc, editor.document(), false)?;
     let view = plain_view(alloc, editor)?;
@@ -88,7 +91,8 @@ fn plain_lines(alloc: Global, number: u64, editor: &Editor) -> Result<String, No
 /// The markers of a document and its selection.
 fn selection_lines(alloc: Global, number: u64, document: &Document) -> Result<String, NoMemory>
     ensures { IfOk result (λ text. string_bytes text ≡ marker_lines number document.now.state.document.markers
-        ++ selection_line number document.now.state.document.selection.backward (attributes document.now.state.document.items document.now.state.document.selection)) }
+        ++ selection_line number document.now.state.document.selection.backward
+        (attributes document.now.state.document.items document.now.state.document.selection)) }
 {
     let mut lines = marker_lines(alloc, number, document.markers())?;
     let selection = document.selection();
@@ -101,7 +105,8 @@ fn selection_lines(alloc: Global, number: u64, document: &Document) -> Result<St
 /// A document with its selection: its marks in the model and in the view, and behind them the markers and the selection.
 fn selected_lines(alloc: Global, number: u64, editor: &Editor) -> Result<String, NoMemory>
     requires { IsCurrent (λ object. gives (object.vtable, object.value)) editor.now }
-    ensures { IfOk result (λ text. string_bytes text ≡ shown_lines (conversion_in (λ object. gives (object.vtable, object.value)) editor.now) number true (document_in editor.now)) }
+    ensures { IfOk result (λ text. string_bytes text ≡ shown_lines (conversion_in (λ object. gives (object.vtable, object.value)) editor.now) number
+        true (document_in editor.now)) }
 {
     let model = model_text(alloc, editor.document(), true)?;
     let view = selected_view(alloc, editor)?;
@@ -119,7 +124,8 @@ pub fn shown_lines(
     editor: &Editor,
 ) -> Result<String, NoMemory>
     requires { IsCurrent (λ object. gives (object.vtable, object.value)) editor.now }
-    ensures { IfOk result (λ text. string_bytes text ≡ shown_lines (conversion_in (λ object. gives (object.vtable, object.value)) editor.now) number selection (document_in editor.now)) }
+    ensures { IfOk result (λ text. string_bytes text ≡ shown_lines (conversion_in (λ object. gives (object.vtable, object.value)) editor.now) number
+        selection (document_in editor.now)) }
 {
     if selection {
         selected_lines(alloc, number, editor)

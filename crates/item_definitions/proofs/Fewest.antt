@@ -1,6 +1,7 @@
 -- There are no fewer flat ranges than the flat parts that have exactly a range's items: each part has a parent of its own, and a flat
 -- range that reached into two of these parents would have an item that the range doesn't have.
-use Rattle.std.proofs.Common.{◌≡◌, ℕ, ◌+◌, ◌<◌, ◌≤◌, Bool, true, false, ◌&&◌, ◌||◌, nat_lt, ◌==◌, if◌then◌else◌, List, [], ◌∷◌, ◌++◌, map, Option, Some, None, IsSomeAnd, unwrap_or, ◌⊎◌, inl, inr, refl, sym, ap, ◌∙◌, subst, arith}
+use Rattle.std.proofs.Common.{◌≡◌, ℕ, ◌+◌, ◌<◌, ◌≤◌, Bool, true, false, ◌&&◌, ◌||◌, nat_lt, ◌==◌, if◌then◌else◌, List, [], ◌∷◌, ◌++◌, map, Option, Some, None}
+use Rattle.std.proofs.Common.{IsSomeAnd, unwrap_or, ◌⊎◌, inl, inr, refl, sym, ap, ◌∙◌, subst, arith}
 use Rattle.std.proofs.lemmas.Bool.{false≢true}
 use Rattle.std.proofs.lemmas.Bool.Decides.{nat_tests}
 use Rattle.ck_base.proofs.Common.{both}
@@ -72,7 +73,8 @@ apart-spot i homes m n a l r =
     let root = among-spot a m n r in
     no_cut [] i below.0 (sym root.0 ∙ below.1)
 
-apart-maps : (i j : ℕ) (homes others : List (List ℕ)) → ¬ (i ≡ j) → (a : List ℕ) → Among a (map (λ home. i ∷ home) homes) → Among a (map (λ home. j ∷ home) others) → ⊥
+apart-maps : (i j : ℕ) (homes others : List (List ℕ)) → ¬ (i ≡ j) → (a : List ℕ) → Among a (map (λ home. i ∷ home) homes)
+    → Among a (map (λ home. j ∷ home) others) → ⊥
 apart-maps i j homes others differ a l r =
     let one = among-map (λ home. i ∷ home) a homes l in
     let two = among-map (λ home. j ∷ home) a others r in
@@ -149,7 +151,8 @@ above-behind counts (i ∷ p) home m x y z e =
         → ((x : List ℕ) (y : ℕ) (z : List ℕ) → inner ≡ x ++ y ∷ z → not_after p (x ++ y ∷ []) ≡ false)
         → (x : List ℕ) (y : ℕ) (z : List ℕ) → i ∷ inner ≡ x ++ y ∷ z → not_after (i ∷ p) (x ++ y ∷ []) ≡ false
     cut [] inner m rest x y z e = absurd m
-    cut (next ∷ p) inner m rest [] y z e = let same : i ≡ y = cc in subst (λ w. not_after (i ∷ next ∷ p) (w ∷ []) ≡ false) same (not_after-same i (next ∷ p) [] false refl)
+    cut (next ∷ p) inner m rest [] y z e = let same : i ≡ y = cc
+        in subst (λ w. not_after (i ∷ next ∷ p) (w ∷ []) ≡ false) same (not_after-same i (next ∷ p) [] false refl)
     cut (next ∷ p) inner m rest (w ∷ x) y z e =
         let same : i ≡ w = cc in
         subst (λ v. not_after (i ∷ next ∷ p) (v ∷ (x ++ y ∷ [])) ≡ false) same (not_after-same i (next ∷ p) (x ++ y ∷ []) false (rest x y z cc))
@@ -186,8 +189,12 @@ witness-behind counts [] home m = absurd m
 witness-behind counts (i ∷ p) home m =
     elim (among-join home (map (λ inner. i ∷ inner) (homes_behind (counts_under i counts) p)) (spot (next_offset i p) (unwrap_or (counts []) 0)) m) [
       | inl l ↦ (let r = among-map (λ inner. i ∷ inner) home (homes_behind (counts_under i counts) p) l in
-          let w = witness-behind (counts_under i counts) p r.0 r.2 in
-          (w.0, subst (λ h. At counts h w.0) (sym r.1) w.1, subst (λ h. not_after (i ∷ p) (h ++ w.0 ∷ []) ≡ true) (sym r.1) (not_after-same i p (r.0 ++ w.0 ∷ []) true w.2)))
+          let w = witness-behind (counts_under i counts) p r.0 r.2 in (
+            w.0,
+            subst (λ h. At counts h w.0) (sym r.1) w.1,
+            subst (λ h. not_after (i ∷ p) (h ++ w.0 ∷ []) ≡ true) (sym r.1)
+                (not_after-same i p (r.0 ++ w.0 ∷ []) true w.2),
+          ))
       | inr r ↦ (let s = among-spot home (next_offset i p) (unwrap_or (counts []) 0) r in (
         next_offset i p,
         subst (λ h. At counts h (next_offset i p)) (sym s.0) (below-at (counts []) (next_offset i p) s.1),
@@ -207,8 +214,12 @@ witness-before counts (j ∷ q) home fits m =
             subst (λ h. not_after (h ++ 1 ∷ []) (j ∷ q) ≡ true) (sym s.0) (not_after-cons 1 j [] q ∙ first j (not_after [] q) s.1 (not_after-none q)),
           ))
       | inr r ↦ (let r = among-map (λ inner. j ∷ inner) home (homes_before q) r in
-          let w = witness-before (counts_under j counts) q r.0 fits.1 r.2 in
-          (w.0, subst (λ h. At counts h w.0) (sym r.1) w.1, subst (λ h. not_after (h ++ (w.0 + 1) ∷ []) (j ∷ q) ≡ true) (sym r.1) (not_after-same j (r.0 ++ (w.0 + 1) ∷ []) q true w.2)))
+          let w = witness-before (counts_under j counts) q r.0 fits.1 r.2 in (
+            w.0,
+            subst (λ h. At counts h w.0) (sym r.1) w.1,
+            subst (λ h. not_after (h ++ (w.0 + 1) ∷ []) (j ∷ q) ≡ true) (sym r.1)
+                (not_after-same j (r.0 ++ (w.0 + 1) ∷ []) q true w.2),
+          ))
     ]
   where
     first : (j : ℕ) (b : Bool) → 0 < j → b ≡ true → (nat_lt 1 j || (1 == j && b)) ≡ true
@@ -295,7 +306,8 @@ good-between counts [] q home fits below m =
     )
 good-between counts (i ∷ p) [] home fits below m = absurd m
 good-between counts (i ∷ p) (j ∷ q) home fits below m =
-    go (i == j) refl (λ e inner n. good-between (counts_under i counts) p q inner (subst (λ v. Fits (counts_under v counts) q) (sym e) fits.1) (later i j (not_after p q) ordered e) n) m
+    go (i == j) refl (λ e inner n. good-between (counts_under i counts) p q inner (subst (λ v. Fits (counts_under v counts) q) (sym e) fits.1)
+    (later i j (not_after p q) ordered e) n) m
   where
     ordered : (nat_lt i j || (i == j && not_after p q)) ≡ true
     ordered = sym (not_after-cons i j p q) ∙ below
@@ -314,7 +326,8 @@ good-between counts (i ∷ p) (j ∷ q) home fits below m =
         subst (λ v. Good counts (i ∷ p) (v ∷ q) home) same (good-inner counts i p q r.0 home r.1 (inner same r.0 r.2))
     go false e inner m =
         let less : i < j = grind (arith, nat_tests, ordered) in
-        elim (among-join home (map (λ inner. i ∷ inner) (homes_behind (counts_under i counts) p)) (spot (next_offset i p) j ++ map (λ inner. j ∷ inner) (homes_before q)) m) [
+        elim (among-join home (map (λ inner. i ∷ inner) (homes_behind (counts_under i counts) p))
+        (spot (next_offset i p) j ++ map (λ inner. j ∷ inner) (homes_before q)) m) [
           | inl l ↦ good-front counts i j p q home less fits l
           | inr r ↦ (elim (among-join home (spot (next_offset i p) j) (map (λ inner. j ∷ inner) (homes_before q)) r) [
             | inl l ↦ good-middle counts i j p q home less fits l
@@ -325,17 +338,35 @@ good-between counts (i ∷ p) (j ∷ q) home fits below m =
 -- A flat range that has an item of a parent is in that parent, or it has an item on the way there.
 pub reach : (p q parent : List ℕ) (k : ℕ) → parent_of p ≡ parent_of q → has p q parent k ≡ true
     → (parent_of p ≡ parent) ⊎ ((x : List ℕ) × (y : ℕ) × (z : List ℕ) × (parent ≡ x ++ y ∷ z) × (has p q x y ≡ true))
-reach [] [] parent k e h = absurd (false≢true (sym (ap (λ b. not_after [] (parent ++ k ∷ []) && b) (not_after-push parent (k + 1)) ∙ and-none (not_after [] (parent ++ k ∷ []))) ∙ h))
+reach [] [] parent k e h = absurd
+    (false≢true (sym (ap (λ b. not_after [] (parent ++ k ∷ []) && b) (not_after-push parent (k + 1)) ∙ and-none (not_after [] (parent ++ k ∷ []))) ∙ h))
 reach [] (b ∷ []) [] k e h = inl refl
-reach [] (b ∷ []) (y ∷ z) k e h = inr ([], y, z, refl, ap (λ t. true && t) (not_after-cons (y + 1) b [] []) ∙ step y b (not_after (y ∷ (z ++ (k + 1) ∷ [])) (b ∷ [])) (not_after-cons y b (z ++ (k + 1) ∷ []) [] ∙ ap (λ t. nat_lt y b || (y == b && t)) (not_after-push z (k + 1))) h)
+reach [] (b ∷ []) (y ∷ z) k e h = inr (
+  [],
+  y,
+  z,
+  refl,
+  ap (λ t. true && t) (not_after-cons (y + 1) b [] [])
+      ∙ step y b (not_after (y ∷ (z ++ (k + 1) ∷ [])) (b ∷ [])) (not_after-cons y b (z ++ (k + 1) ∷ []) []
+      ∙ ap (λ t. nat_lt y b || (y == b && t)) (not_after-push z (k + 1))) h,
+)
   where
     step : (y b : ℕ) (c : Bool) → c ≡ (nat_lt y b || (y == b && false)) → (true && c) ≡ true → (nat_lt (y + 1) b || (y + 1 == b && true)) ≡ true
     step y b c e h = grind (arith, nat_tests)
 reach [] (b ∷ d ∷ q) parent k e h = absurd cc
-reach (a ∷ []) [] parent k e h = absurd (false≢true (sym (ap (λ b. not_after (a ∷ []) (parent ++ k ∷ []) && b) (not_after-push parent (k + 1)) ∙ and-none (not_after (a ∷ []) (parent ++ k ∷ []))) ∙ h))
+reach (a ∷ []) [] parent k e h =
+    absurd (false≢true (sym (ap (λ b. not_after (a ∷ []) (parent ++ k ∷ []) && b) (not_after-push parent (k + 1))
+    ∙ and-none (not_after (a ∷ []) (parent ++ k ∷ []))) ∙ h))
 reach (a ∷ []) (b ∷ []) [] k e h = inl refl
 reach (a ∷ []) (b ∷ []) (y ∷ z) k e h =
-    inr ([], y, z, refl, has-here a b y [] [] ∙ step a b y (not_after [] (z ++ k ∷ [])) (not_after (z ++ (k + 1) ∷ []) []) (not_after-push z (k + 1)) (sym (has-below a b y k [] [] z) ∙ h))
+    inr (
+      [],
+      y,
+      z,
+      refl,
+      has-here a b y [] [] ∙ step a b y (not_after [] (z ++ k ∷ [])) (not_after (z ++ (k + 1) ∷ []) []) (not_after-push z (k + 1))
+          (sym (has-below a b y k [] [] z) ∙ h),
+    )
   where
     step : (a b y : ℕ) (c d : Bool) → d ≡ false → ((nat_lt a y || (a == y && c)) && (nat_lt y b || (y == b && d))) ≡ true
         → ((nat_lt a y || (a == y && true)) && (nat_lt (y + 1) b || (y + 1 == b && true))) ≡ true
@@ -350,7 +381,8 @@ reach (a ∷ c ∷ p) (b ∷ d ∷ q) [] k e h =
 reach (a ∷ c ∷ p) (b ∷ d ∷ q) (y ∷ z) k e h =
     let same : a ≡ b = cc in
     let rest : parent_of (c ∷ p) ≡ parent_of (d ∷ q) = cc in
-    let inner = below a y (has (c ∷ p) (d ∷ q) z k) (sym (has-below a a y k (c ∷ p) (d ∷ q) z ∙ inside a y (not_after (c ∷ p) (z ++ k ∷ [])) (not_after (z ++ (k + 1) ∷ []) (d ∷ q)))
+    let inner = below a y (has (c ∷ p) (d ∷ q) z k)
+    (sym (has-below a a y k (c ∷ p) (d ∷ q) z ∙ inside a y (not_after (c ∷ p) (z ++ k ∷ [])) (not_after (z ++ (k + 1) ∷ []) (d ∷ q)))
     ∙ subst (λ v. has (a ∷ c ∷ p) (v ∷ d ∷ q) (y ∷ z) k ≡ true) (sym same) h) in
     elim (reach (c ∷ p) (d ∷ q) z k rest inner.1) [
       | inl f ↦ inl (let g : a ≡ y = inner.0 in cc)

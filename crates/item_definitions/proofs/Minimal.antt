@@ -1,5 +1,7 @@
 -- The flat parts of a range are flat, in order, apart, not empty, have exactly the range's items, and are the fewest.
-use Rattle.std.proofs.Common.{◌≡◌, ◌≢◌, ℕ, zero, suc, ◌+◌, ◌<◌, ◌≤◌, Bool, true, false, not, ◌&&◌, ◌||◌, nat_lt, ◌==◌, if◌then◌else◌, List, [], ◌∷◌, ◌++◌, map, length, Option, Some, None, IsSome, IsSomeAnd, IsTrue, unwrap_or, option_map, option_and_then, slice_get, ◌⊎◌, inl, inr, refl, sym, ap, ◌∙◌, subst, arith, All, length-append, append_assoc, get_or}
+use Rattle.std.proofs.Common.{◌≡◌, ◌≢◌, ℕ, zero, suc, ◌+◌, ◌<◌, ◌≤◌, Bool, true, false, not, ◌&&◌, ◌||◌, nat_lt, ◌==◌, if◌then◌else◌, List, [], ◌∷◌, ◌++◌, map}
+use Rattle.std.proofs.Common.{length, Option, Some, None, IsSome, IsSomeAnd, IsTrue, unwrap_or, option_map, option_and_then, slice_get, ◌⊎◌, inl, inr, refl}
+use Rattle.std.proofs.Common.{sym, ap, ◌∙◌, subst, arith, All, length-append, append_assoc, get_or}
 use Rattle.std.specs.List.{list_any}
 use Rattle.std.proofs.lemmas.Bool.{false≢true}
 use Rattle.std.proofs.lemmas.Bool.Decides.{nat_tests}
@@ -8,19 +10,22 @@ use Rattle.std.proofs.lemmas.List.Elements.{All-nil, All-cons, All-head, All-tai
 use Rattle.item_definitions.specs.Item.{Item, inner}
 use Rattle.item_definitions.specs.Children.{parent_of, offset_of, children_at, child_count}
 use Rattle.item_definitions.specs.Position.{Range, between, not_after, is_before, holds, IsFlat, IsItem, IsRange}
-use Rattle.item_definitions.specs.FlatParts.{under, run, next_offset, counts_under, parts_behind, parts_before, parts_between, flat_parts, any_holds, IsInOrder, IsFlatCover, IsMinimalCover}
+use Rattle.item_definitions.specs.FlatParts.{under, run, next_offset, counts_under, parts_behind, parts_before, parts_between, flat_parts, any_holds, IsInOrder}
+use Rattle.item_definitions.specs.FlatParts.{IsFlatCover, IsMinimalCover}
 use Rattle.item_definitions.proofs.Paths.{parent_of-push, offset_of-push, path-joined, push-some}
 use Rattle.item_definitions.proofs.Order.{not_after-cons, not_after-none, has, behind-push}
 use Rattle.item_definitions.proofs.Covers.{At, Coherent, any_has, at-some, between-has}
 use Rattle.item_definitions.proofs.Distinct.{Among, no_fewer}
-use Rattle.item_definitions.proofs.Fewest.{spot, homes_behind, homes_before, homes_between, Good, Fits, distinct-between, good-between, reach, below-at, not_after-same}
+use Rattle.item_definitions.proofs.Fewest.{spot, homes_behind, homes_before, homes_between, Good, Fits, distinct-between, good-between, reach, below-at}
+use Rattle.item_definitions.proofs.Fewest.{not_after-same}
 
 -- elements stand in elements alone
 pub coherent-items : (above : List ℕ) (items : List Item) (index : ℕ) (path : List ℕ)
     → IsSome (child_count items (above ++ index ∷ path)) → index < unwrap_or (child_count items above) 0
 coherent-items [] items index path h = go items index h
   where
-    go : (items : List Item) (index : ℕ) → IsSome (option_map length (option_and_then (λ item. option_and_then (children_at path) (inner item)) (slice_get items index))) → index < length items
+    go : (items : List Item) (index : ℕ)
+        → IsSome (option_map length (option_and_then (λ item. option_and_then (children_at path) (inner item)) (slice_get items index))) → index < length items
     go [] index h = absurd (false≢true h)
     go (item ∷ items) zero h = omega arith
     go (item ∷ items) (suc index) h = (let less : index < length items = go items index h in omega arith)
@@ -76,8 +81,10 @@ length-joins a b c d e f = simp length-append (omega (arith, e, f))
 length-behind : (counts : List ℕ → Option ℕ) (p : List ℕ) → length (parts_behind counts p) ≡ length (homes_behind counts p)
 length-behind counts [] = refl
 length-behind counts (i ∷ p) =
-    length-joins (map (under i) (parts_behind (counts_under i counts) p)) (run (next_offset i p) (unwrap_or (counts []) 0)) (map (λ home. i ∷ home) (homes_behind (counts_under i counts) p)) (spot (next_offset i p) (unwrap_or (counts []) 0))
-    (length-maps (under i) (λ home. i ∷ home) (parts_behind (counts_under i counts) p) (homes_behind (counts_under i counts) p) (length-behind (counts_under i counts) p))
+    length-joins (map (under i) (parts_behind (counts_under i counts) p)) (run (next_offset i p) (unwrap_or (counts []) 0))
+    (map (λ home. i ∷ home) (homes_behind (counts_under i counts) p)) (spot (next_offset i p) (unwrap_or (counts []) 0))
+    (length-maps (under i) (λ home. i ∷ home) (parts_behind (counts_under i counts) p) (homes_behind (counts_under i counts) p)
+    (length-behind (counts_under i counts) p))
     (length-run (next_offset i p) (unwrap_or (counts []) 0))
 
 length-before : (q : List ℕ) → length (parts_before q) ≡ length (homes_before q)
@@ -100,8 +107,10 @@ length-between counts (i ∷ p) (j ∷ q) = go (i == j) (length-between (counts_
     go false e =
         length-joins (map (under i) (parts_behind (counts_under i counts) p)) (run (next_offset i p) j ++ map (under j) (parts_before q))
         (map (λ home. i ∷ home) (homes_behind (counts_under i counts) p)) (spot (next_offset i p) j ++ map (λ home. j ∷ home) (homes_before q))
-        (length-maps (under i) (λ home. i ∷ home) (parts_behind (counts_under i counts) p) (homes_behind (counts_under i counts) p) (length-behind (counts_under i counts) p))
-        (length-joins (run (next_offset i p) j) (map (under j) (parts_before q)) (spot (next_offset i p) j) (map (λ home. j ∷ home) (homes_before q)) (length-run (next_offset i p) j)
+        (length-maps (under i) (λ home. i ∷ home) (parts_behind (counts_under i counts) p) (homes_behind (counts_under i counts) p)
+        (length-behind (counts_under i counts) p))
+        (length-joins (run (next_offset i p) j) (map (under j) (parts_before q)) (spot (next_offset i p) j) (map (λ home. j ∷ home) (homes_before q))
+        (length-run (next_offset i p) j)
         (length-maps (under j) (λ home. j ∷ home) (parts_before q) (homes_before q) (length-before q)))
 
 -- a range in one parent, from an offset up to a greater one
@@ -167,9 +176,11 @@ not_after-trans [] q r h g = not_after-none r
 not_after-trans (x ∷ p) [] r h g = absurd (false≢true h)
 not_after-trans (x ∷ p) (y ∷ q) [] h g = absurd (false≢true g)
 not_after-trans (x ∷ p) (y ∷ q) (z ∷ r) h g =
-    not_after-cons x z p r ∙ step x y z (not_after p q) (not_after q r) (not_after p r) (sym (not_after-cons x y p q) ∙ h) (sym (not_after-cons y z q r) ∙ g) (not_after-trans p q r)
+    not_after-cons x z p r ∙ step x y z (not_after p q) (not_after q r) (not_after p r) (sym (not_after-cons x y p q) ∙ h) (sym (not_after-cons y z q r)
+    ∙ g) (not_after-trans p q r)
   where
-    step : (x y z : ℕ) (a b c : Bool) → (nat_lt x y || (x == y && a)) ≡ true → (nat_lt y z || (y == z && b)) ≡ true → (a ≡ true → b ≡ true → c ≡ true) → (nat_lt x z || (x == z && c)) ≡ true
+    step : (x y z : ℕ) (a b c : Bool) → (nat_lt x y || (x == y && a)) ≡ true → (nat_lt y z || (y == z && b)) ≡ true → (a ≡ true → b ≡ true → c ≡ true)
+        → (nat_lt x z || (x == z && c)) ≡ true
     step x y z a b c h g f = grind (arith, nat_tests)
 
 -- all ranges end not behind an offset; all start not before it
@@ -184,7 +195,8 @@ unfolding EndBy StartFrom
 order-join n [] ys a b ends starts = b
 order-join n (x ∷ xs) ys a b ends starts = (
   All-append (λ later. IsTrue (not_after x.end later.start)) xs ys a.0
-      (All-weaker (StartFrom n) (λ later. IsTrue (not_after x.end later.start)) (λ later s. not_after-trans x.end (n ∷ []) later.start (All-head (EndBy n) x xs ends) s) ys starts),
+      (All-weaker (StartFrom n) (λ later. IsTrue (not_after x.end later.start))
+      (λ later s. not_after-trans x.end (n ∷ []) later.start (All-head (EndBy n) x xs ends) s) ys starts),
   order-join n xs ys a.1 b (All-tail (EndBy n) x xs ends) starts,
 )
 
@@ -192,7 +204,8 @@ order-under : (i : ℕ) (parts : List Range) → IsInOrder parts → IsInOrder (
 order-under i [] h = tt
 order-under i (x ∷ xs) h = (
   All-map (λ later. IsTrue (not_after (i ∷ x.end) later.start)) (under i) xs
-      (All-weaker (λ later. IsTrue (not_after x.end later.start)) (λ later. IsTrue (not_after (i ∷ x.end) (i ∷ later.start))) (λ later s. not_after-same i x.end later.start true s) xs h.0),
+      (All-weaker (λ later. IsTrue (not_after x.end later.start)) (λ later. IsTrue (not_after (i ∷ x.end) (i ∷ later.start)))
+      (λ later s. not_after-same i x.end later.start true s) xs h.0),
   order-under i xs h.1,
 )
 
@@ -222,7 +235,8 @@ ends-run a b = go (nat_lt a b)
 starts-under : (j n : ℕ) (parts : List Range) → n ≤ j → All (StartFrom n) (map (under j) parts)
 unfolding StartFrom
 starts-under j n parts below =
-    All-map (StartFrom n) (under j) parts (λ k d h. not_after-cons n j [] (get_or parts k d).start ∙ step n j (not_after [] (get_or parts k d).start) below (not_after-none (get_or parts k d).start))
+    All-map (StartFrom n) (under j) parts (λ k d h. not_after-cons n j [] (get_or parts k d).start
+    ∙ step n j (not_after [] (get_or parts k d).start) below (not_after-none (get_or parts k d).start))
   where
     step : (n j : ℕ) (b : Bool) → n ≤ j → b ≡ true → (nat_lt n j || (n == j && b)) ≡ true
     step n j b below e = grind (arith, nat_tests)
@@ -251,12 +265,15 @@ order-behind counts (i ∷ p) = order-front counts i (unwrap_or (counts []) 0) p
 order-before : (q : List ℕ) → IsInOrder (parts_before q)
 order-before [] = tt
 order-before (j ∷ q) =
-    order-join j (run 0 j) (map (under j) (parts_before q)) (order-run 0 j) (order-under j (parts_before q) (order-before q)) (ends-run 0 j) (starts-under j j (parts_before q) (omega arith))
+    order-join j (run 0 j) (map (under j) (parts_before q)) (order-run 0 j) (order-under j (parts_before q) (order-before q)) (ends-run 0 j)
+    (starts-under j j (parts_before q) (omega arith))
 
 -- all parts up to the item of the end end before it
-ends-front : (counts : List ℕ → Option ℕ) (i j : ℕ) (p : List ℕ) → i < j → All (EndBy j) (map (under i) (parts_behind (counts_under i counts) p) ++ run (next_offset i p) j)
+ends-front : (counts : List ℕ → Option ℕ) (i j : ℕ) (p : List ℕ) → i < j
+    → All (EndBy j) (map (under i) (parts_behind (counts_under i counts) p) ++ run (next_offset i p) j)
 ends-front counts i j p less =
-    All-append (EndBy j) (map (under i) (parts_behind (counts_under i counts) p)) (run (next_offset i p) j) (ends-under i j (parts_behind (counts_under i counts) p) less) (ends-run (next_offset i p) j)
+    All-append (EndBy j) (map (under i) (parts_behind (counts_under i counts) p)) (run (next_offset i p) j)
+    (ends-under i j (parts_behind (counts_under i counts) p) less) (ends-run (next_offset i p) j)
 
 order-between : (counts : List ℕ → Option ℕ) (p q : List ℕ) → not_after p q ≡ true → IsInOrder (parts_between counts p q)
 order-between counts [] q below = order-before q
@@ -279,7 +296,8 @@ order-between counts (i ∷ p) (j ∷ q) below = go (i == j) refl (λ e. order-b
         let middle = run (next_offset i p) j in
         let back = map (under j) (parts_before q) in
         subst IsInOrder (append_assoc front middle back)
-        (order-join j (front ++ middle) back (order-front counts i j p (order-behind (counts_under i counts) p)) (order-under j (parts_before q) (order-before q))
+        (order-join j (front ++ middle) back (order-front counts i j p (order-behind (counts_under i counts) p))
+        (order-under j (parts_before q) (order-before q))
         (ends-front counts i j p less) (starts-under j j (parts_before q) (omega arith)))
 
 at-item : (counts : List ℕ → Option ℕ) (path : List ℕ) → IsItem counts path → At counts (parent_of path) (offset_of path)
@@ -303,7 +321,8 @@ cover-exact counts range tree ordered path item =
 
 -- flat ranges of which one has an item of a parent: one is in that parent, or one has an item on the way there
 found : (others : List Range) (home : List ℕ) (k : ℕ) → All IsFlat others → any_has others home k ≡ true
-    → Among home (map (λ (part : Range). parent_of part.start) others) ⊎ ((x : List ℕ) × (y : ℕ) × (z : List ℕ) × (home ≡ x ++ y ∷ z) × (any_has others x y ≡ true))
+    → Among home (map (λ (part : Range). parent_of part.start) others)
+    ⊎ ((x : List ℕ) × (y : ℕ) × (z : List ℕ) × (home ≡ x ++ y ∷ z) × (any_has others x y ≡ true))
 found [] home k flat h = absurd (false≢true h)
 found (part ∷ others) home k flat h = go (has part.start part.end home k) refl (found others home k (All-tail IsFlat part others flat))
   where
@@ -319,8 +338,10 @@ found (part ∷ others) home k flat h = go (has part.start part.end home k) refl
     rest a b e h = sym (ap (λ c. c || b) (sym e)) ∙ h
 
     go : (t : Bool) → t ≡ has part.start part.end home k
-        → (any_has others home k ≡ true → Among home (map (λ (part : Range). parent_of part.start) others) ⊎ ((x : List ℕ) × (y : ℕ) × (z : List ℕ) × (home ≡ x ++ y ∷ z) × (any_has others x y ≡ true)))
-        → Among home (map (λ (part : Range). parent_of part.start) (part ∷ others)) ⊎ ((x : List ℕ) × (y : ℕ) × (z : List ℕ) × (home ≡ x ++ y ∷ z) × (any_has (part ∷ others) x y ≡ true))
+        → (any_has others home k ≡ true → Among home (map (λ (part : Range). parent_of part.start) others)
+        ⊎ ((x : List ℕ) × (y : ℕ) × (z : List ℕ) × (home ≡ x ++ y ∷ z) × (any_has others x y ≡ true)))
+        → Among home (map (λ (part : Range). parent_of part.start) (part ∷ others))
+        ⊎ ((x : List ℕ) × (y : ℕ) × (z : List ℕ) × (home ≡ x ++ y ∷ z) × (any_has (part ∷ others) x y ≡ true))
     go true e inner = elim (reach part.start part.end home k (All-head IsFlat part others flat) (sym e)) [
       | inl f ↦ inl (inl (sym f))
       | inr r ↦ inr (r.0, r.1, r.2, r.3, some (has part.start part.end r.0 r.1) (any_has others r.0 r.1) r.4)
@@ -336,7 +357,8 @@ home-found : (counts : List ℕ → Option ℕ) (range : Range) (others : List R
 home-found counts range others home tree cover good =
     elim (found others home good.0 cover.flat (same home good.0 good.1 ∙ good.2)) [
       | inl m ↦ m
-      | inr r ↦ (let at : At counts r.0 r.1 = below-at (counts r.0) r.1 (tree r.0 r.1 r.2 (subst (λ h. IsSome (counts h)) r.3 (at-some (counts home) good.0 good.1))) in
+      | inr r ↦ (let at : At counts r.0 r.1 =
+          below-at (counts r.0) r.1 (tree r.0 r.1 r.2 (subst (λ h. IsSome (counts h)) r.3 (at-some (counts home) good.0 good.1))) in
           absurd (false≢true (sym (good.3 r.0 r.1 r.2 r.3) ∙ (sym (same r.0 r.1 at) ∙ r.4))))
     ]
   where
@@ -355,7 +377,8 @@ minimal counts range tree h = record {
       let homes = homes_between counts range.start range.end in
       let parents = map (λ (part : Range). parent_of part.start) others in
       let few = no_fewer homes parents (distinct-between counts range.start range.end)
-      (λ home m. home-found counts range others home tree cover (good-between counts range.start range.end home (fits-place counts range.end tree h.1.1) h.2 m)) in
+      (λ home m. home-found counts range others home tree cover (good-between counts range.start range.end home (fits-place counts range.end tree h.1.1)
+      h.2 m)) in
       omega (arith, length-between counts range.start range.end, few, length-map others (λ (part : Range). parent_of part.start));
 }
 

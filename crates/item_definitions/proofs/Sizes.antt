@@ -1,6 +1,7 @@
 -- How many items a list has, and how deep they are, against those of the items in it.
 use Rattle.std.proofs.Common.{◌≡◌, ℕ, ◌+◌, ◌≤◌, max, List, [], ◌∷◌, length, Some, refl, ap, ◌∙◌, arith}
-use Rattle.item_definitions.specs.Item.{Item, Items, character, element, none, more, list_of, inner, item_count, inner_count, count_of, item_depth, inner_depth, depth_of}
+use Rattle.item_definitions.specs.Item.{Item, Items, character, element, none, more, list_of, inner, item_count, inner_count, count_of, item_depth, inner_depth}
+use Rattle.item_definitions.specs.Item.{depth_of}
 
 pub count-list : (children : Items) → inner_count children ≡ count_of (list_of children)
 count-list none = refl

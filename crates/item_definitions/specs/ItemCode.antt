@@ -26,7 +26,8 @@ value_back (Text text) = refl
 -- a code for attributes
 abbrev pub coded_attributes : Coded Attributes
 coded_attributes =
-    coded_list (coded× (coded_list coded_ℕ) (code_by (ℤ ⊎ (Bool ⊎ List ℕ)) (coded⊎ coded_ℤ (coded⊎ coded_bool (coded_list coded_ℕ))) value_parts value_from value_back))
+    coded_list (coded× (coded_list coded_ℕ) (code_by (ℤ ⊎ (Bool ⊎ List ℕ)) (coded⊎ coded_ℤ (coded⊎ coded_bool (coded_list coded_ℕ))) value_parts
+    value_from value_back))
 
 -- a character, the head of an element, or the end of one
 abbrev Token : Type 0
@@ -86,5 +87,6 @@ items_back items =
 -- a code for lists of items
 abbrev pub coded_items : Coded (List Item)
 coded_items =
-    code_by (List Token) (coded_list (coded⊎ (coded× coded_ℕ coded_attributes) (coded⊎ (coded× coded_ℕ (coded× (coded_list coded_ℕ) coded_attributes)) coded_ℕ)))
+    code_by (List Token) (coded_list
+    (coded⊎ (coded× coded_ℕ coded_attributes) (coded⊎ (coded× coded_ℕ (coded× (coded_list coded_ℕ) coded_attributes)) coded_ℕ)))
     (λ items. inner_tokens (items_of items) []) (λ tokens. list_of (read tokens).0) items_back

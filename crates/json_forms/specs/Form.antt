@@ -1,6 +1,7 @@
 -- Reading a form from a JSON value (RFC 8259). What breaks the form first is refused with its path: `/` and the field's name or the index,
 -- from the outside in.
-use Rattle.std.specs.Prelude.{◌≡◌, ◌≢◌, ℕ, ◌+◌, ◌^◌, List, [], ◌∷◌, ◌++◌, Bool, false, nat_lt, Option, Some, None, Result, Ok, Err, if◌then◌else◌, length, option_and_then, ⊤}
+use Rattle.std.specs.Prelude.{◌≡◌, ◌≢◌, ℕ, ◌+◌, ◌^◌, List, [], ◌∷◌, ◌++◌, Bool, false, nat_lt, Option, Some, None, Result, Ok, Err, if◌then◌else◌, length}
+use Rattle.std.specs.Prelude.{option_and_then, ⊤}
 use Rattle.std.specs.Str.{chars, is_utf8, bytes_eq}
 use Rattle.std.specs.Fmt.{decimal}
 use Rattle.std.specs.List.{list_any}

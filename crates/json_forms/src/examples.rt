@@ -17,11 +17,14 @@ pub fn positions()
 /// How many numbers a position has: 1 to 65. The numbers are tested first.
 pub fn lengths()
     ensures none { read_by (position_field [] (codes "at")) (codes "{\"at\":[]}") ≡ Err (BadField (codes "/at")) }
-    ensures most { read_by (position_field [] (codes "at")) (codes "{\"at\":[0,0,0,0,0,0,0,0,0,0,0,0,0,0,0,0,0,0,0,0,0,0,0,0,0,0,0,0,0,0,0,0,0,0,0,0,0,0,0,0,0,0,0,0,0,0,0,0,0,0,0,0,0,0,0,0,0,0,0,0,0,0,0,0,0]}")
+    ensures most { read_by (position_field [] (codes "at"))
+        (codes "{\"at\":[0,0,0,0,0,0,0,0,0,0,0,0,0,0,0,0,0,0,0,0,0,0,0,0,0,0,0,0,0,0,0,0,0,0,0,0,0,0,0,0,0,0,0,0,0,0,0,0,0,0,0,0,0,0,0,0,0,0,0,0,0,0,0,0,0]}")
         ≡ Ok (replicate 65 0) }
-    ensures too_many { read_by (position_field [] (codes "at")) (codes "{\"at\":[0,0,0,0,0,0,0,0,0,0,0,0,0,0,0,0,0,0,0,0,0,0,0,0,0,0,0,0,0,0,0,0,0,0,0,0,0,0,0,0,0,0,0,0,0,0,0,0,0,0,0,0,0,0,0,0,0,0,0,0,0,0,0,0,0,0]}")
+    ensures too_many { read_by (position_field [] (codes "at"))
+        (codes "{\"at\":[0,0,0,0,0,0,0,0,0,0,0,0,0,0,0,0,0,0,0,0,0,0,0,0,0,0,0,0,0,0,0,0,0,0,0,0,0,0,0,0,0,0,0,0,0,0,0,0,0,0,0,0,0,0,0,0,0,0,0,0,0,0,0,0,0,0]}")
         ≡ Err (BadField (codes "/at")) }
-    ensures no_number { read_by (position_field [] (codes "at")) (codes "{\"at\":[null,0,0,0,0,0,0,0,0,0,0,0,0,0,0,0,0,0,0,0,0,0,0,0,0,0,0,0,0,0,0,0,0,0,0,0,0,0,0,0,0,0,0,0,0,0,0,0,0,0,0,0,0,0,0,0,0,0,0,0,0,0,0,0,0,0,0]}")
+    ensures no_number { read_by (position_field [] (codes "at"))
+        (codes "{\"at\":[null,0,0,0,0,0,0,0,0,0,0,0,0,0,0,0,0,0,0,0,0,0,0,0,0,0,0,0,0,0,0,0,0,0,0,0,0,0,0,0,0,0,0,0,0,0,0,0,0,0,0,0,0,0,0,0,0,0,0,0,0,0,0,0,0,0,0]}")
         ≡ Err (BadField (codes "/at/0")) }
     ensures no_list { read_by (position_field [] (codes "at")) (codes "{\"at\":null}") ≡ Err (BadField (codes "/at")) }
     ensures absent { read_by (position_field [] (codes "at")) (codes "{}") ≡ Err (BadField (codes "/at")) }

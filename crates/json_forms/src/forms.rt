@@ -7,7 +7,8 @@ ghost use Rattle.std.specs.BTreeMap.{keys};
 ghost use Rattle.serde_json.specs.Data.{Data};
 ghost use Rattle.serde_json.specs.Find.{get, as_array};
 ghost use Rattle.serde_json.specs.View.{view, items_view, members_view};
-ghost use Rattle.json_forms.specs.Form.{Reads, json_of, object_at, text_field, offsets_at, position_length_at, position_field, first_other, only_fields, word_field, field_path, index_path};
+ghost use Rattle.json_forms.specs.Form.{Reads, json_of, object_at, text_field, offsets_at, position_length_at, position_field, first_other, only_fields};
+ghost use Rattle.json_forms.specs.Form.{word_field, field_path, index_path};
 ghost use Rattle.json_forms.specs.OtherFields.{is_other};
 
 use crate::fault::FormFault;

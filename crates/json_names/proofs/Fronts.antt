@@ -9,6 +9,7 @@ module _ {A : Type 0} where
   with_front front reading = reading >>= λ rest. Ok (front ++ rest)
 
   -- one more is in front
-  pub with_front_more : (front : List A) (x : A) (reading : Result (List A) FormFault) → with_front (front ++ x ∷ []) reading ≡ with_front front (reading >>= λ rest. Ok (x ∷ rest))
+  pub with_front_more : (front : List A) (x : A) (reading : Result (List A) FormFault) → with_front (front ++ x ∷ []) reading
+      ≡ with_front front (reading >>= λ rest. Ok (x ∷ rest))
   with_front_more front x (Ok rest) = let read : List A → Result (List A) FormFault = λ xs. Ok xs in ap read (append_assoc front (x ∷ []) rest)
   with_front_more front x (Err refusal) = refl

@@ -26,7 +26,8 @@ length_some path (n ∷ numbers) read e f = go (is_position_length (n ∷ number
 pub position_some : (path name : List ℕ) (d : Data) (read : List ℕ) → position_field path name d ≡ Ok read → read ≢ []
 unfolding position_field
 position_some path name d read e =
-    let a = step (or_bad (field_path path name) (option_and_then as_array (get name d))) (λ (items : Items). offsets_at (field_path path name) 0 items >>= position_length_at (field_path path name)) read e in
+    let a = step (or_bad (field_path path name) (option_and_then as_array (get name d))) (λ (items : Items). offsets_at (field_path path name) 0 items
+    >>= position_length_at (field_path path name)) read e in
     let b = step (offsets_at (field_path path name) 0 a.0) (position_length_at (field_path path name)) read a.1 in
     length_some (field_path path name) b.0 read b.1
 

@@ -1,5 +1,6 @@
 -- What is written of a part is read as this part, and what is read keeps the limits.
-use Rattle.std.proofs.Common.{◌≡◌, ℕ, ◌+◌, ℤ, pos, negsuc, List, [], ◌∷◌, ◌++◌, true, false, if◌then◌else◌, is_some, Option, Some, None, option_map, Ok, refl, sym, ap, ◌∙◌, subst, append_assoc, append-nil, encode_utf8_all}
+use Rattle.std.proofs.Common.{◌≡◌, ℕ, ◌+◌, ℤ, pos, negsuc, List, [], ◌∷◌, ◌++◌, true, false, if◌then◌else◌, is_some, Option, Some, None, option_map, Ok, refl}
+use Rattle.std.proofs.Common.{sym, ap, ◌∙◌, subst, append_assoc, append-nil, encode_utf8_all}
 use Rattle.std.specs.Str.{chars}
 use Rattle.std.specs.List.{list_all}
 use Rattle.std.specs.Ordering.{ordering_reverse, is_lt}
@@ -20,14 +21,16 @@ use Rattle.ck_base.proofs.Common.{first, second, less}
 use Rattle.json_forms.specs.Form.{◌>>=◌, offset_of, offsets_at, is_position_length, position_length_at, position_field, text_field, field_path}
 use Rattle.json_names.specs.Names.{name_field}
 use Rattle.json_values.specs.Values.{value_of, value_at, value_field, nullable_at, nullable_field, attribute_at, attributes_from, attributes_field, path_field}
-use Rattle.json_values.specs.Written.{numbers_items, numbers_form, value_form, nullable_form, attributes_members, attributes_form, is_offset, is_position, is_path, is_whole, is_value, is_nullable, is_attribute, are_attributes}
+use Rattle.json_values.specs.Written.{numbers_items, numbers_form, value_form, nullable_form, attributes_members, attributes_form, is_offset, is_position}
+use Rattle.json_values.specs.Written.{is_path, is_whole, is_value, is_nullable, is_attribute, are_attributes}
 
 -- ---- positions and paths
 
 offset_written : (n : ℕ) → is_offset n ≡ true → offset_of (number (unsigned n)) ≡ Some n
 offset_written n e = ap (λ b. if b then Some n else None) e
 
-offsets_written : (path : List ℕ) (index : ℕ) (numbers : List ℕ) → list_all is_offset numbers ≡ true → offsets_at path index (numbers_items numbers) ≡ Ok numbers
+offsets_written : (path : List ℕ) (index : ℕ) (numbers : List ℕ) → list_all is_offset numbers ≡ true → offsets_at path index (numbers_items numbers)
+    ≡ Ok numbers
 unfolding offsets_at
 offsets_written path index [] e = refl
 offsets_written path index (n ∷ numbers) e =
@@ -35,14 +38,16 @@ offsets_written path index (n ∷ numbers) e =
     let later = offsets_written path (index + 1) numbers (second (is_offset n) (list_all is_offset numbers) e) in
     rw (here, later) refl
 
-pub position_written : (path name : List ℕ) (d : Data) (numbers : List ℕ) → get name d ≡ Some (numbers_form numbers) → is_position numbers ≡ true → position_field path name d ≡ Ok numbers
+pub position_written : (path name : List ℕ) (d : Data) (numbers : List ℕ) → get name d ≡ Some (numbers_form numbers) → is_position numbers ≡ true
+    → position_field path name d ≡ Ok numbers
 unfolding position_field position_length_at
 position_written path name d numbers g e =
     let long = first (is_position_length numbers) (list_all is_offset numbers) e in
     let all = offsets_written (field_path path name) 0 numbers (second (is_position_length numbers) (list_all is_offset numbers) e) in
     rw (g, all, long) refl
 
-pub path_written : (path name : List ℕ) (d : Data) (numbers : List ℕ) → get name d ≡ Some (numbers_form numbers) → is_path numbers ≡ true → path_field path name d ≡ Ok numbers
+pub path_written : (path name : List ℕ) (d : Data) (numbers : List ℕ) → get name d ≡ Some (numbers_form numbers) → is_path numbers ≡ true
+    → path_field path name d ≡ Ok numbers
 unfolding path_field
 path_written path name d [] g e = rw g refl
 path_written path name d (n ∷ numbers) g e =
@@ -55,7 +60,8 @@ pub text_written : (path name : List ℕ) (d : Data) (bytes : List ℕ) → get 
 unfolding text_field
 text_written path name d bytes g = rw g refl
 
-pub name_written : (path name : List ℕ) (d : Data) (bytes : List ℕ) → get name d ≡ Some (string bytes) → is_name bytes ≡ true → name_field path name d ≡ Ok bytes
+pub name_written : (path name : List ℕ) (d : Data) (bytes : List ℕ) → get name d ≡ Some (string bytes) → is_name bytes ≡ true → name_field path name d
+    ≡ Ok bytes
 unfolding name_field
 name_written path name d bytes g e = rw (g, e) refl
 
@@ -73,7 +79,8 @@ value_of_written (Text text) e =
     let fits = second (all_scalars text) (is_within_text_limit (encode_utf8_all text)) e in
     ap (λ b. if b then Some (Text (chars (encode_utf8_all text))) else None) fits ∙ ap (λ t. Some (Text t)) (chars-encodes text valid)
 
-pub value_written : (path name : List ℕ) (d : Data) (value : AttributeValue) → get name d ≡ Some (value_form value) → is_value value ≡ true → value_field path name d ≡ Ok value
+pub value_written : (path name : List ℕ) (d : Data) (value : AttributeValue) → get name d ≡ Some (value_form value) → is_value value ≡ true
+    → value_field path name d ≡ Ok value
 unfolding value_field
 value_written path name d value g e = let read = value_of_written value e in rw (g, read) refl
 
@@ -82,7 +89,8 @@ no_null (Whole whole) = refl
 no_null (Truth truth) = refl
 no_null (Text text) = refl
 
-pub nullable_written : (path name : List ℕ) (d : Data) (value : Option AttributeValue) → get name d ≡ Some (nullable_form value) → is_nullable value ≡ true → nullable_field path name d ≡ Ok value
+pub nullable_written : (path name : List ℕ) (d : Data) (value : Option AttributeValue) → get name d ≡ Some (nullable_form value)
+    → is_nullable value ≡ true → nullable_field path name d ≡ Ok value
 unfolding nullable_field nullable_at value_at
 nullable_written path name d None g e = rw g refl
 nullable_written path name d (Some value) g e =
@@ -92,12 +100,15 @@ nullable_written path name d (Some value) g e =
 
 -- ---- attributes
 
-below_middle : (key : List ℕ) (made : List (List ℕ × AttributeValue)) (entry : List ℕ × AttributeValue) (rest : List (List ℕ × AttributeValue)) → below_all name_cmp key (made ++ entry ∷ rest) ≡ true → name_cmp key entry.0 ≡ Less
+below_middle : (key : List ℕ) (made : List (List ℕ × AttributeValue)) (entry : List ℕ × AttributeValue) (rest : List (List ℕ × AttributeValue))
+    → below_all name_cmp key (made ++ entry ∷ rest) ≡ true → name_cmp key entry.0 ≡ Less
 below_middle key [] entry rest h = less (name_cmp key entry.0) (first (is_lt (name_cmp key entry.0)) (below_all name_cmp key rest) h)
-below_middle key (one ∷ made) entry rest h = below_middle key made entry rest (second (is_lt (name_cmp key one.0)) (below_all name_cmp key (made ++ entry ∷ rest)) h)
+below_middle key (one ∷ made) entry rest h = below_middle key made entry rest
+    (second (is_lt (name_cmp key one.0)) (below_all name_cmp key (made ++ entry ∷ rest)) h)
 
 -- an entry whose name is behind all others goes last
-put_last : (made : List (List ℕ × AttributeValue)) (entry : List ℕ × AttributeValue) (rest : List (List ℕ × AttributeValue)) → is_sorted name_cmp (made ++ entry ∷ rest) ≡ true → with_value entry.0 entry.1 made ≡ made ++ entry ∷ []
+put_last : (made : List (List ℕ × AttributeValue)) (entry : List ℕ × AttributeValue) (rest : List (List ℕ × AttributeValue))
+    → is_sorted name_cmp (made ++ entry ∷ rest) ≡ true → with_value entry.0 entry.1 made ≡ made ++ entry ∷ []
 put_last [] entry rest h = refl
 put_last (one ∷ made) entry rest h =
     let before = below_middle one.0 made entry rest (first (below_all name_cmp one.0 (made ++ entry ∷ rest)) (is_sorted name_cmp (made ++ entry ∷ rest)) h) in
@@ -112,7 +123,8 @@ attribute_written path entry e =
     let read = value_of_written entry.1 (second (is_name entry.0) (is_value entry.1) e) in
     rw (named, read) refl
 
-attributes_from_written : (path : List ℕ) (made entries : List (List ℕ × AttributeValue)) → is_sorted name_cmp (made ++ entries) ≡ true → list_all is_attribute entries ≡ true → attributes_from path made (attributes_members entries) ≡ Ok (made ++ entries)
+attributes_from_written : (path : List ℕ) (made entries : List (List ℕ × AttributeValue)) → is_sorted name_cmp (made ++ entries) ≡ true
+    → list_all is_attribute entries ≡ true → attributes_from path made (attributes_members entries) ≡ Ok (made ++ entries)
 unfolding attributes_from
 attributes_from_written path made [] s e = ap Ok (sym (append-nil made))
 attributes_from_written path made (entry ∷ entries) s e =
@@ -125,8 +137,10 @@ attributes_from_written path made (entry ∷ entries) s e =
     ∙ ap (λ others. attributes_from path others (attributes_members entries)) put
     ∙ later ∙ ap Ok joined
 
-pub attributes_written : (path name : List ℕ) (d : Data) (attributes : List (List ℕ × AttributeValue)) → get name d ≡ Some (attributes_form attributes) → are_attributes attributes ≡ true → attributes_field path name d ≡ Ok attributes
+pub attributes_written : (path name : List ℕ) (d : Data) (attributes : List (List ℕ × AttributeValue)) → get name d ≡ Some (attributes_form attributes)
+    → are_attributes attributes ≡ true → attributes_field path name d ≡ Ok attributes
 unfolding attributes_field
 attributes_written path name d attributes g e =
-    let read = attributes_from_written (field_path path name) [] attributes (first (is_sorted name_cmp attributes) (list_all is_attribute attributes) e) (second (is_sorted name_cmp attributes) (list_all is_attribute attributes) e) in
+    let read = attributes_from_written (field_path path name) [] attributes (first (is_sorted name_cmp attributes) (list_all is_attribute attributes) e)
+    (second (is_sorted name_cmp attributes) (list_all is_attribute attributes) e) in
     rw g read

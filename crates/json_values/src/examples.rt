@@ -34,9 +34,11 @@ pub fn attributes()
 /// What is a path: the empty list, or a list as that of a position.
 pub fn paths()
     ensures root { read_by (path_field [] (codes "path")) (codes "{\"path\":[]}") ≡ Ok [] }
-    ensures most { read_by (path_field [] (codes "path")) (codes "{\"path\":[0,0,0,0,0,0,0,0,0,0,0,0,0,0,0,0,0,0,0,0,0,0,0,0,0,0,0,0,0,0,0,0,0,0,0,0,0,0,0,0,0,0,0,0,0,0,0,0,0,0,0,0,0,0,0,0,0,0,0,0,0,0,0,0,0]}")
+    ensures most { read_by (path_field [] (codes "path"))
+        (codes "{\"path\":[0,0,0,0,0,0,0,0,0,0,0,0,0,0,0,0,0,0,0,0,0,0,0,0,0,0,0,0,0,0,0,0,0,0,0,0,0,0,0,0,0,0,0,0,0,0,0,0,0,0,0,0,0,0,0,0,0,0,0,0,0,0,0,0,0]}")
         ≡ Ok (replicate 65 0) }
-    ensures too_many { read_by (path_field [] (codes "path")) (codes "{\"path\":[0,0,0,0,0,0,0,0,0,0,0,0,0,0,0,0,0,0,0,0,0,0,0,0,0,0,0,0,0,0,0,0,0,0,0,0,0,0,0,0,0,0,0,0,0,0,0,0,0,0,0,0,0,0,0,0,0,0,0,0,0,0,0,0,0,0]}")
+    ensures too_many { read_by (path_field [] (codes "path"))
+        (codes "{\"path\":[0,0,0,0,0,0,0,0,0,0,0,0,0,0,0,0,0,0,0,0,0,0,0,0,0,0,0,0,0,0,0,0,0,0,0,0,0,0,0,0,0,0,0,0,0,0,0,0,0,0,0,0,0,0,0,0,0,0,0,0,0,0,0,0,0,0]}")
         ≡ Err (BadField (codes "/path")) }
     ensures over { read_by (path_field [] (codes "path")) (codes "{\"path\":[4294967296]}") ≡ Err (BadField (codes "/path/0")) }
     ensures null { read_by (path_field [] (codes "path")) (codes "{\"path\":null}") ≡ Err (BadField (codes "/path")) }

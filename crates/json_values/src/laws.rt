@@ -5,7 +5,8 @@ ghost use Rattle.serde_json.specs.Find.{get};
 ghost use Rattle.ck_base.specs.declared.value.Value.{Value as AttributeValue};
 ghost use Rattle.json_forms.specs.Form.{position_field};
 ghost use Rattle.json_values.specs.Values.{value_field, nullable_field, attributes_field, path_field};
-ghost use Rattle.json_values.specs.Written.{numbers_form, value_form, nullable_form, attributes_form, is_position, is_path, is_value, is_nullable, are_attributes, is_json};
+ghost use Rattle.json_values.specs.Written.{numbers_form, value_form, nullable_form, attributes_form, is_position, is_path, is_value, is_nullable};
+ghost use Rattle.json_values.specs.Written.{are_attributes, is_json};
 
 /// A field that holds a position, or the path of an element, as its list of numbers.
 pub fn positions_read_back()

@@ -1,5 +1,6 @@
 -- Which items of one list lie between two bounds.
-use Rattle.std.proofs.Common.{◌≡◌, ℕ, zero, suc, ◌+◌, ◌<◌, ◌≤◌, max, List, [], ◌∷◌, Bool, true, false, ◌&&◌, ◌||◌, ◌==◌, nat_le, nat_lt, Option, Some, None, refl, sym, ap, ◌∙◌, arith}
+use Rattle.std.proofs.Common.{◌≡◌, ℕ, zero, suc, ◌+◌, ◌<◌, ◌≤◌, max, List, [], ◌∷◌, Bool, true, false, ◌&&◌, ◌||◌, ◌==◌, nat_le, nat_lt, Option, Some, None}
+use Rattle.std.proofs.Common.{refl, sym, ap, ◌∙◌, arith}
 use Rattle.std.proofs.lemmas.Bool.Decides.{nat_tests}
 use Rattle.item_definitions.specs.Position.{not_after, behind}
 use Rattle.item_definitions.proofs.Order.{not_after-cons}
@@ -20,7 +21,8 @@ and-false : (b : Bool) → (b && false) ≡ false
 and-false true = refl
 and-false false = refl
 
-pub behind_end : (low : Bool) (last : ℕ) (ends : List ℕ) (next : ℕ) (rest : List ℕ) → last < next → (low && not_after (behind (next ∷ rest)) (last ∷ ends)) ≡ false
+pub behind_end : (low : Bool) (last : ℕ) (ends : List ℕ) (next : ℕ) (rest : List ℕ) → last < next
+    → (low && not_after (behind (next ∷ rest)) (last ∷ ends)) ≡ false
 behind_end low last ends next rest less = ap (λ b. low && b) (behind-past last ends next rest less) ∙ and-false low
 
 behind-none : (next : ℕ) (rest : List ℕ) → not_after (behind (next ∷ rest)) [] ≡ false
@@ -37,7 +39,8 @@ later-past (Some []) index h = refl
 later-past (Some (last ∷ ends)) index h =
     not_after-cons (index + 1 + 1) last [] ends ∙ settled index last (not_after [] ends) (sym (not_after-cons (index + 1) last [] ends) ∙ h)
   where
-    settled : (index last : ℕ) (b : Bool) → (nat_lt (index + 1) last || (index + 1 == last && b)) ≡ false → (nat_lt (index + 1 + 1) last || (index + 1 + 1 == last && b)) ≡ false
+    settled : (index last : ℕ) (b : Bool) → (nat_lt (index + 1) last || (index + 1 == last && b)) ≡ false
+        → (nat_lt (index + 1 + 1) last || (index + 1 + 1 == last && b)) ≡ false
     settled index last b h = grind (arith, nat_tests)
 
 -- one of the items from an index on lies between bounds exactly where the first one does that isn't before the lower bound
@@ -54,7 +57,8 @@ module _ (low : ℕ) (ends : ℕ → Bool) (later : (index : ℕ) → ends index
     where
       go : (t : Bool) → t ≡ nat_le low index
           → any_from (λ i. nat_le low i && ends i) (index + 1) count ≡ (nat_lt (max low (index + 1)) (index + 1 + count) && ends (max low (index + 1)))
-          → ((nat_le low index && ends index) || any_from (λ i. nat_le low i && ends i) (index + 1) count) ≡ (nat_lt (max low index) (index + suc count) && ends (max low index))
+          → ((nat_le low index && ends index) || any_from (λ i. nat_le low i && ends i) (index + 1) count)
+          ≡ (nat_lt (max low index) (index + suc count) && ends (max low index))
       go true e rest =
           let least : low ≤ index = grind (arith, nat_tests) in
           let here : max low index ≡ index = omega arith in
@@ -78,7 +82,8 @@ module _ (low : ℕ) (ends : ℕ → Bool) (later : (index : ℕ) → ends index
   one_from start h index count = ap (λ (test : ℕ → Bool). any_from (λ i. test i && ends i) index count) (λ t i. h i t) ∙ any-is index count
 
 -- the same for the code's calls
-pub some_from : (low : ℕ) (start : List ℕ) (end : Option (List ℕ)) (index count first : ℕ) → ((i : ℕ) → not_after start (i ∷ []) ≡ nat_le low i) → first ≡ max low index → first < index + count
+pub some_from : (low : ℕ) (start : List ℕ) (end : Option (List ℕ)) (index count first : ℕ) → ((i : ℕ) → not_after start (i ∷ []) ≡ nat_le low i)
+    → first ≡ max low index → first < index + count
     → ends_by end ((first + 1) ∷ []) ≡ any_from (λ i. not_after start (i ∷ []) && ends_by end ((i + 1) ∷ [])) index count
 some_from low start end index count first h is less =
     let has : nat_lt first (index + count) ≡ true = grind (arith, nat_tests) in
@@ -86,7 +91,8 @@ some_from low start end index count first h is less =
     ∙ (λ t. nat_lt (sym is t) (index + count) && ends_by end ((sym is t + 1) ∷ []))
     ∙ ap (λ b. b && ends_by end ((first + 1) ∷ [])) has)
 
-pub none_from : (low : ℕ) (start : List ℕ) (end : Option (List ℕ)) (index count first : ℕ) → ((i : ℕ) → not_after start (i ∷ []) ≡ nat_le low i) → first ≡ max low index → index + count ≤ first
+pub none_from : (low : ℕ) (start : List ℕ) (end : Option (List ℕ)) (index count first : ℕ) → ((i : ℕ) → not_after start (i ∷ []) ≡ nat_le low i)
+    → first ≡ max low index → index + count ≤ first
     → nat_lt first (index + count) ≡ any_from (λ i. not_after start (i ∷ []) && ends_by end ((i + 1) ∷ [])) index count
 none_from low start end index count first h is least =
     let none : nat_lt first (index + count) ≡ false = grind (arith, nat_tests) in

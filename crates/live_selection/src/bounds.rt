@@ -32,7 +32,8 @@ fn start_inside(start: &[u32], index: u32) -> Option<&[u32]>
 /// What the item at an index sees of an upper bound: None where all that is in the item lies before it, and an empty one where all of it
 /// lies behind.
 fn end_inside(end: Option<&[u32]>, index: u32) -> Option<&[u32]>
-    ensures { (next : ℕ) (rest : List ℕ) → ends_by (option_copied result) (behind (next ∷ rest)) ≡ ends_by (option_copied end.entry) (index ∷ behind (next ∷ rest)) }
+    ensures { (next : ℕ) (rest : List ℕ) → ends_by (option_copied result) (behind (next ∷ rest))
+        ≡ ends_by (option_copied end.entry) (index ∷ behind (next ∷ rest)) }
 {
     let end = end?;
     let Some((last, rest)) = end.split_first() else {

@@ -8,8 +8,10 @@ ghost use Rattle.live_selection.specs.Sample.{bold, plain_a, bold_a, paragraph_o
 pub fn of_ranges()
     ensures first { natural (paragraph_of 1 (plain_a ∷ bold_a ∷ []) ∷ []) (selected (between (0 ∷ 0 ∷ []) (0 ∷ 2 ∷ [])) false) ≡ [] }
     ensures second { natural (paragraph_of 1 (plain_a ∷ bold_a ∷ []) ∷ []) (selected (between (0 ∷ 1 ∷ []) (0 ∷ 2 ∷ [])) false) ≡ bold }
-    ensures next_paragraph { natural (paragraph_of 1 (plain_a ∷ []) ∷ paragraph_of 2 (bold_a ∷ []) ∷ []) (selected (between (0 ∷ 1 ∷ []) (1 ∷ 1 ∷ [])) false) ≡ bold }
-    ensures in_an_element { natural (paragraph_of 1 [] ∷ paragraph_of 2 (paragraph_of 3 (bold_a ∷ []) ∷ []) ∷ []) (selected (between (0 ∷ []) (2 ∷ [])) false) ≡ bold }
+    ensures next_paragraph { natural (paragraph_of 1 (plain_a ∷ []) ∷ paragraph_of 2 (bold_a ∷ []) ∷ [])
+        (selected (between (0 ∷ 1 ∷ []) (1 ∷ 1 ∷ [])) false) ≡ bold }
+    ensures in_an_element { natural (paragraph_of 1 [] ∷ paragraph_of 2 (paragraph_of 3 (bold_a ∷ []) ∷ []) ∷ [])
+        (selected (between (0 ∷ []) (2 ∷ [])) false) ≡ bold }
     ensures not_whole { natural (paragraph_of 1 (bold_a ∷ []) ∷ []) (selected (between (0 ∷ []) (0 ∷ 0 ∷ [])) false) ≡ [] }
     ensures behind_the_range { natural (paragraph_of 1 [] ∷ paragraph_of 2 (bold_a ∷ []) ∷ []) (selected (between (0 ∷ []) (1 ∷ 0 ∷ [])) false) ≡ [] }
 {}

@@ -2,9 +2,11 @@
 use Rattle.std.specs.Prelude.{ℕ, List, ◌++◌, codes}
 use Rattle.std.specs.Fmt.{decimal}
 use Rattle.ck_base.specs.declared.faults.Refusal.{Refusal}
-use Rattle.ck_base.specs.declared.faults.Refusal.TheVariants.{NotJson, BadField, ChangesSpent, UnknownCommand, BadArgument, Disabled, NothingToUndo, NothingToRedo, NotInView, ViewTooDeep, Edit, FixerRefused, NotSettled, Schema, NoMemory}
+use Rattle.ck_base.specs.declared.faults.Refusal.TheVariants.{NotJson, BadField, ChangesSpent, UnknownCommand, BadArgument, Disabled, NothingToUndo}
+use Rattle.ck_base.specs.declared.faults.Refusal.TheVariants.{NothingToRedo, NotInView, ViewTooDeep, Edit, FixerRefused, NotSettled, Schema, NoMemory}
 use Rattle.ck_base.specs.declared.faults.EditFault.{EditFault}
-use Rattle.ck_base.specs.declared.faults.EditFault.TheVariants.{NotRegistered, BadPosition, BadRange, BadTarget, MarkerExists, MarkerUnknown, IdsSpent, TooLarge, TooDeep, NoMemory as NoMemoryForEdit}
+use Rattle.ck_base.specs.declared.faults.EditFault.TheVariants.{NotRegistered, BadPosition, BadRange, BadTarget, MarkerExists, MarkerUnknown, IdsSpent}
+use Rattle.ck_base.specs.declared.faults.EditFault.TheVariants.{TooLarge, TooDeep, NoMemory as NoMemoryForEdit}
 use Rattle.ck_base.specs.declared.faults.Rule.{Rule}
 use Rattle.ck_base.specs.declared.faults.Rule.TheVariants.{Child, Attribute}
 use Rattle.machine_definitions.specs.Texts.{quoted_text, printed_path}

@@ -20,7 +20,8 @@ all_carried shift zero (marker ∷ markers) most = absurd (omega arith)
 all_carried shift (suc n) [] most = refl
 all_carried shift (suc n) (marker ∷ markers) most = ap (λ rest. (marker.0, carry_range shift marker.1) ∷ rest) (all_carried shift n markers (omega arith))
 
-pub still_carried : (shift : Shift) (n : ℕ) (markers : Markers) → All (λ marker. IsCarried shift marker.1) markers → IfSome (slice_get (values_of (carried_up_to shift n markers)) n) (IsCarried shift)
+pub still_carried : (shift : Shift) (n : ℕ) (markers : Markers) → All (λ marker. IsCarried shift marker.1) markers
+    → IfSome (slice_get (values_of (carried_up_to shift n markers)) n) (IsCarried shift)
 still_carried shift zero [] all = tt
 still_carried shift zero (marker ∷ markers) all = all 0 marker (omega arith)
 still_carried shift (suc n) [] all = tt
@@ -28,7 +29,8 @@ still_carried shift (suc n) (marker ∷ markers) all = still_carried shift n mar
 
 -- the next one, and the table with it where it goes
 there : (shift : Shift) (n : ℕ) (markers : Markers) → n < length markers
-    → (range : Range) × (slice_get (values_of (carried_up_to shift n markers)) n ≡ Some range) × (set_value_at (carried_up_to shift n markers) n (carry_range shift range) ≡ carried_up_to shift (n + 1) markers)
+    → (range : Range) × (slice_get (values_of (carried_up_to shift n markers)) n ≡ Some range)
+    × (set_value_at (carried_up_to shift n markers) n (carry_range shift range) ≡ carried_up_to shift (n + 1) markers)
 there shift zero [] less = absurd (omega arith)
 there shift zero (marker ∷ markers) less = (marker.1, refl, refl)
 there shift (suc n) [] less = absurd (omega arith)
@@ -37,7 +39,8 @@ there shift (suc n) (marker ∷ markers) less =
     let next : suc n + 1 ≡ suc (n + 1) = omega arith in (
       rest.0,
       rest.1,
-      subst (λ m. set_value_at (carried_up_to shift (suc n) (marker ∷ markers)) (suc n) (carry_range shift rest.0) ≡ carried_up_to shift m (marker ∷ markers)) (sym next)
+      subst (λ m. set_value_at (carried_up_to shift (suc n) (marker ∷ markers)) (suc n) (carry_range shift rest.0)
+          ≡ carried_up_to shift m (marker ∷ markers)) (sym next)
           (ap (λ others. (marker.0, carry_range shift marker.1) ∷ others) rest.2),
     )
 

@@ -1,5 +1,6 @@
 -- A table whose names are in order, as a map.
-use Rattle.std.proofs.Common.{◌≡◌, ℕ, zero, suc, ◌+◌, slice_index_or, arith, List, [], ◌∷◌, ◌++◌, Bool, true, false, cond, ◌&&◌, T, Some, None, nat_eq, refl, sym, ap, ◌∙◌, subst}
+use Rattle.std.proofs.Common.{◌≡◌, ℕ, zero, suc, ◌+◌, slice_index_or, arith, List, [], ◌∷◌, ◌++◌, Bool, true, false, cond, ◌&&◌, T, Some, None, nat_eq, refl}
+use Rattle.std.proofs.Common.{sym, ap, ◌∙◌, subst}
 use Rattle.std.specs.Ordering.{is_lt, is_eq, eq_by_cmp, ordering_reverse, match_ordering}
 use Rattle.std.specs.declared.cmp.Ordering.{Ordering}
 use Rattle.std.specs.declared.cmp.Ordering.TheVariants.{Less, Equal, Greater}
@@ -53,7 +54,8 @@ module _ {V : Type 0} where
   sorted_keys [] h k d low high = absurd (omega arith)
   sorted_keys (e ∷ []) h k d low high = absurd (omega arith)
   sorted_keys (e ∷ f ∷ rest) h zero d low high =
-      let below : name_cmp e.0 f.0 ≡ Less = less (name_cmp e.0 f.0) (first (is_lt (name_cmp e.0 f.0)) (below_all name_cmp e.0 rest) (first (below_all name_cmp e.0 (f ∷ rest)) _ h)) in
+      let below : name_cmp e.0 f.0 ≡ Less =
+      less (name_cmp e.0 f.0) (first (is_lt (name_cmp e.0 f.0)) (below_all name_cmp e.0 rest) (first (below_all name_cmp e.0 (f ∷ rest)) _ h)) in
       ap is_lt (nat_list_cmp_total.antisymm f.0 e.0) ∙ reversed (name_cmp e.0 f.0) below
   sorted_keys (e ∷ f ∷ rest) h (suc k) d low high =
       let next : suc k + 1 ≡ suc (k + 1) = omega arith in
@@ -81,34 +83,40 @@ module _ {V : Type 0} where
 
   -- a table that has this value at a name, and else what another one has, is that other one with the value
   pub put : (old new : List (List ℕ × V)) (key : List ℕ) (value : V) → IsOrdered old → IsOrdered new
-      → ((q : List ℕ) → lookup (pointwise nat_eq q) new ≡ cond (pointwise nat_eq key q) (Some value) (lookup (pointwise nat_eq q) old)) → new ≡ with_value key value old
+      → ((q : List ℕ) → lookup (pointwise nat_eq q) new ≡ cond (pointwise nat_eq key q) (Some value) (lookup (pointwise nat_eq q) old))
+      → new ≡ with_value key value old
   put old new key value ordered made updates =
       same_entries name_cmp nat_list_cmp_total same_name new (with_value key value old) (is_T _ made) (is_T _ (ordered_with_value key value old ordered))
-      (λ q. sym (looked_up q new) ∙ updates q ∙ (λ t. cond (sym (either q key) t) (Some value) (looked_up q old t)) ∙ sym (find-put name_cmp nat_list_cmp_total q key value old))
+      (λ q. sym (looked_up q new) ∙ updates q ∙ (λ t. cond (sym (either q key) t) (Some value) (looked_up q old t))
+      ∙ sym (find-put name_cmp nat_list_cmp_total q key value old))
 
   absent : (key : List ℕ) (entries : List (List ℕ × V)) → below_all name_cmp key entries ≡ true → remove_entry (pointwise nat_eq key) entries ≡ entries
   absent key [] h = refl
   absent key (e ∷ rest) h =
       let before : name_cmp key e.0 ≡ Less = less (name_cmp key e.0) (first (is_lt (name_cmp key e.0)) (below_all name_cmp key rest) h) in
       let other : pointwise nat_eq key e.0 ≡ false = texts_ties key e.0 ∙ ap is_eq before in
-      ap (λ b. cond b rest (e ∷ remove_entry (pointwise nat_eq key) rest)) other ∙ ap (λ es. e ∷ es) (absent key rest (second (is_lt (name_cmp key e.0)) (below_all name_cmp key rest) h))
+      ap (λ b. cond b rest (e ∷ remove_entry (pointwise nat_eq key) rest)) other
+      ∙ ap (λ es. e ∷ es) (absent key rest (second (is_lt (name_cmp key e.0)) (below_all name_cmp key rest) h))
 
   -- a name taken out
   pub taken : (key : List ℕ) (entries : List (List ℕ × V)) → IsOrdered entries → remove_entry (pointwise nat_eq key) entries ≡ without key entries
   taken key [] h = refl
   taken key (e ∷ rest) h =
       ap (λ b. cond b rest (e ∷ remove_entry (pointwise nat_eq key) rest)) (texts_ties key e.0)
-      ∙ elim (name_cmp key e.0) as (λ o. name_cmp key e.0 ≡ o → cond (is_eq o) rest (e ∷ remove_entry (pointwise nat_eq key) rest) ≡ match_ordering o (e ∷ rest) rest (e ∷ without key rest)) [
+      ∙ elim (name_cmp key e.0) as (λ o. name_cmp key e.0 ≡ o → cond (is_eq o) rest (e ∷ remove_entry (pointwise nat_eq key) rest)
+      ≡ match_ordering o (e ∷ rest) rest (e ∷ without key rest)) [
         | Less ↦ λ p. ap (λ es. e ∷ es) (absent key rest (before_all key e.0 rest p (first _ _ h)))
         | Equal ↦ λ p. refl
         | Greater ↦ λ p. ap (λ es. e ∷ es) (taken key rest (second _ _ h))
       ] refl
 
   -- a name that is there with another value
-  pub written : (key : List ℕ) (value old : V) (entries : List (List ℕ × V)) → IsOrdered entries → value_of key entries ≡ Some old → set_value (pointwise nat_eq key) entries value ≡ with_value key value entries
+  pub written : (key : List ℕ) (value old : V) (entries : List (List ℕ × V)) → IsOrdered entries → value_of key entries ≡ Some old
+      → set_value (pointwise nat_eq key) entries value ≡ with_value key value entries
   written key value old [] h there = cc
   written key value old (e ∷ rest) h there =
-      ap (λ b. cond b ((e.0, value) ∷ rest) (e ∷ set_value (pointwise nat_eq key) rest value)) (texts_ties key e.0) ∙ go (name_cmp key e.0) refl (written key value old rest (second _ _ h))
+      ap (λ b. cond b ((e.0, value) ∷ rest) (e ∷ set_value (pointwise nat_eq key) rest value)) (texts_ties key e.0)
+      ∙ go (name_cmp key e.0) refl (written key value old rest (second _ _ h))
     where
       go : (o : Ordering) → name_cmp key e.0 ≡ o → (value_of key rest ≡ Some old → set_value (pointwise nat_eq key) rest value ≡ with_value key value rest)
           → cond (is_eq o) ((e.0, value) ∷ rest) (e ∷ set_value (pointwise nat_eq key) rest value) ≡ with_value key value (e ∷ rest)

@@ -26,12 +26,14 @@ empty_itself first_id least most = record {
   limited = (omega arith, omega arith);
 }
 
-pub empty_sound : (items : List Item) (cells : List (List Item)) (markers : Markers) (selection : Selection) (first_id : ℕ) → items ≡ [] → cells ≡ [] → markers ≡ []
+pub empty_sound : (items : List Item) (cells : List (List Item)) (markers : Markers) (selection : Selection) (first_id : ℕ) → items ≡ [] → cells ≡ []
+    → markers ≡ []
     → selection ≡ selected (between (0 ∷ []) (0 ∷ [])) false → 1 ≤ first_id → first_id ≤ 2 ^ 63 → IsSound (state_of items cells markers selection first_id)
 empty_sound items cells markers selection first_id no_items no_cells no_markers start least most =
     subst IsSound (sym (λ i. state_of (no_items i) (no_cells i) (no_markers i) (start i) first_id)) (empty_itself first_id least most)
 
-overridden_sound : (items : List Item) (cells : List (List Item)) (markers : Markers) (selection : Selection) (next_id : ℕ) (key : List ℕ) (value : Option AttributeValue)
+overridden_sound : (items : List Item) (cells : List (List Item)) (markers : Markers) (selection : Selection) (next_id : ℕ) (key : List ℕ)
+    (value : Option AttributeValue)
     → IsSound (state_of items cells markers selection next_id) → IsSound (state_of items cells markers (with_override key value selection) next_id)
 overridden_sound items cells markers selection next_id key value sound = record {
   distinct = sound.distinct;
@@ -45,9 +47,12 @@ overridden_sound items cells markers selection next_id key value sound = record 
   limited = sound.limited;
 }
 
-pub override_keeps : (items : List Item) (cells : List (List Item)) (markers : Markers) (selection other : Selection) (next_id : ℕ) (key : List ℕ) (value : Option AttributeValue) (result : Result (Unit {0}) AllocError)
-    → IsSound (state_of items cells markers selection next_id) → OnOk result (other ≡ with_override key value selection) → OnErr result (other ≡ selection) → IsSound (state_of items cells markers other next_id)
+pub override_keeps : (items : List Item) (cells : List (List Item)) (markers : Markers) (selection other : Selection) (next_id : ℕ) (key : List ℕ)
+    (value : Option AttributeValue) (result : Result (Unit {0}) AllocError)
+    → IsSound (state_of items cells markers selection next_id) → OnOk result (other ≡ with_override key value selection)
+    → OnErr result (other ≡ selection) → IsSound (state_of items cells markers other next_id)
 override_keeps items cells markers selection other next_id key value (Ok u) sound ok err =
     subst (λ s. IsSound (state_of items cells markers s next_id)) (sym ok)
     (overridden_sound items cells markers selection next_id key value sound)
-override_keeps items cells markers selection other next_id key value (Err fault) sound ok err = subst (λ s. IsSound (state_of items cells markers s next_id)) (sym err) sound
+override_keeps items cells markers selection other next_id key value (Err fault) sound ok err =
+    subst (λ s. IsSound (state_of items cells markers s next_id)) (sym err) sound

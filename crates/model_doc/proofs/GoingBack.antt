@@ -1,5 +1,6 @@
 -- Taking the last operation back leads to the state before it, but for cells that are empty.
-use Rattle.std.proofs.Common.{◌≡◌, ◌≢◌, ℕ, zero, suc, ◌<◌, ◌≤◌, Bool, true, false, ◌&&◌, nat_le, nat_eq, ◌==◌, if◌then◌else◌, List, [], ◌∷◌, ◌++◌, length, set, get_or, Option, Some, None, All, Result, Ok, Err, refl, sym, ap, ◌∙◌, subst, arith, length-set}
+use Rattle.std.proofs.Common.{◌≡◌, ◌≢◌, ℕ, zero, suc, ◌<◌, ◌≤◌, Bool, true, false, ◌&&◌, nat_le, nat_eq, ◌==◌, if◌then◌else◌, List, [], ◌∷◌, ◌++◌, length, set}
+use Rattle.std.proofs.Common.{get_or, Option, Some, None, All, Result, Ok, Err, refl, sym, ap, ◌∙◌, subst, arith, length-set}
 use Rattle.std.specs.List.{flat_map, IsDistinct}
 use Rattle.std.proofs.lemmas.Bool.Decides.{nat_tests}
 use Rattle.item_definitions.specs.Item.{Item}
@@ -36,7 +37,8 @@ record Made (before : State) (done : Done) (held : Held) : Type 0 where
 made_by : (before : State) (done : Done) (held : Held) → Leads before done held → Made before done held
 made_by before done held leads = go (after before.document.items before.cells done.operation) refl leads.led
   where
-    go : (r : Result Both Fault) → after before.document.items before.cells done.operation ≡ r → LedTo before done held.state (r >>= (λ made. Ok (changed done.operation before made))) → Made before done held
+    go : (r : Result Both Fault) → after before.document.items before.cells done.operation ≡ r
+        → LedTo before done held.state (r >>= (λ made. Ok (changed done.operation before made))) → Made before done held
     go (Err fault) e led = absurd led
     go (Ok made) e led = record {
       made = made;
@@ -54,7 +56,8 @@ made_by before done held leads = go (after before.document.items before.cells do
 pub within : (before : State) (done : Done) (held : Held) → Leads before done held → SplitsElement done.operation × IsWithin (back done.operation done.cell)
 within before done held leads =
     let m = made_by before done held leads in
-    back_within before.document.items before.cells done.operation m.made (record { few = (let few = leads.sound.limited.0 in omega (arith, few)); flat = leads.sound.limited.1 }) m.e done.cell
+    back_within before.document.items before.cells done.operation m.made
+    (record { few = (let few = leads.sound.limited.0 in omega (arith, few)); flat = leads.sound.limited.1 }) m.e done.cell
 
 free-next : (cells : List (List Item)) → is_free cells (length cells) ≡ true
 free-next cells = λ i. both (most (length cells)) (ap is_empty (none cells)) i
@@ -70,12 +73,14 @@ free-next cells = λ i. both (most (length cells)) (ap is_empty (none cells)) i
     none (cell ∷ cells) = none cells
 
 -- and it isn't refused
-pub not_refused : (before : State) (done : Done) (held : Held) → Leads before done held → (made : Both) × (after held.state.document.items held.state.cells (back done.operation done.cell) ≡ Ok made)
+pub not_refused : (before : State) (done : Done) (held : Held) → Leads before done held → (made : Both)
+    × (after held.state.document.items held.state.cells (back done.operation done.cell) ≡ Ok made)
 not_refused before done held leads =
     let m = made_by before done held leads in
     let free : is_free m.made.1 done.cell ≡ true = ap (is_free m.made.1) m.cell ∙ free-next m.made.1 in
     let law = reversal before.document.items before.cells done.operation m.made done.cell leads.sound.limited leads.ordered leads.places m.e free in
-    let here = after-there m.made.1 held.state.cells m.same m.long m.made.0 (before.document.items, law.then_cells) (back done.operation done.cell) leads.sound.limited law.reversed in
+    let here = after-there m.made.1 held.state.cells m.same m.long m.made.0 (before.document.items, law.then_cells) (back done.operation done.cell)
+    leads.sound.limited law.reversed in
     (here.0, ap (λ (xs : List Item). after xs held.state.cells (back done.operation done.cell)) m.items ∙ here.1)
 
 -- a fault that only memory can be
@@ -102,11 +107,13 @@ no-cell (cell ∷ cells) zero h = absurd (omega arith)
 no-cell (cell ∷ cells) (suc n) h = no-cell cells n (omega arith)
 
 -- the cell of the record, emptied
-away-emptied : (away : Option (List Item)) (cells then_cells : List (List Item)) (cell : ℕ) → length cells ≤ cell → ((number : ℕ) → in_cell_at then_cells number ≡ cell_then away cells cell number)
+away-emptied : (away : Option (List Item)) (cells then_cells : List (List Item)) (cell : ℕ) → length cells ≤ cell
+    → ((number : ℕ) → in_cell_at then_cells number ≡ cell_then away cells cell number)
     → (number : ℕ) → (if number == cell then [] else in_cell_at then_cells number) ≡ in_cell_at cells number
 away-emptied away cells then_cells cell none kept number = go (number == cell) refl away (kept number)
   where
-    go : (t : Bool) → (number == cell) ≡ t → (away : Option (List Item)) → in_cell_at then_cells number ≡ cell_then away cells cell number → (if t then [] else in_cell_at then_cells number) ≡ in_cell_at cells number
+    go : (t : Bool) → (number == cell) ≡ t → (away : Option (List Item)) → in_cell_at then_cells number ≡ cell_then away cells cell number
+        → (if t then [] else in_cell_at then_cells number) ≡ in_cell_at cells number
     go true t away k = (let same : number ≡ cell = grind (arith, nat_tests) in sym (no-cell cells number (omega (arith, same, none))))
     go false t None k = k
     go false t (Some items) k = k ∙ ap (λ b. if b then items else in_cell_at cells number) t
@@ -123,7 +130,8 @@ reversed before done held items cells leads e =
     let m = made_by before done held leads in
     let free : is_free m.made.1 done.cell ≡ true = ap (is_free m.made.1) m.cell ∙ free-next m.made.1 in
     let law = reversal before.document.items before.cells done.operation m.made done.cell leads.sound.limited leads.ordered leads.places m.e free in
-    let here : after m.made.0 held.state.cells (back done.operation done.cell) ≡ Ok (items, cells) = subst (λ xs. after xs held.state.cells (back done.operation done.cell) ≡ Ok (items, cells)) m.items e in
+    let here : after m.made.0 held.state.cells (back done.operation done.cell)
+    ≡ Ok (items, cells) = subst (λ xs. after xs held.state.cells (back done.operation done.cell) ≡ Ok (items, cells)) m.items e in
     let match =
     effect-same m.made.1 held.state.cells m.same m.made.0 (before.document.items, law.then_cells) (items, cells) (back done.operation done.cell)
     (after-effect m.made.0 m.made.1 (back done.operation done.cell) (before.document.items, law.then_cells) law.reversed)
@@ -136,7 +144,10 @@ reversed before done held items cells leads e =
     let more : length held.state.cells ≤ length (set cells done.cell []) = (let g = match.2 in omega (arith, g, length-set cells done.cell [])) in
     record {
       there = match.0;
-      same = ((λ n. emptied_at cells done.cell n ∙ ap (λ cell. if n == done.cell then [] else cell) (match.1 n) ∙ away n), (let g = grown.2 in let l = m.long in omega (arith, more, g, l)));
+      same = (
+        (λ n. emptied_at cells done.cell n ∙ ap (λ cell. if n == done.cell then [] else cell) (match.1 n) ∙ away n),
+        (let g = grown.2 in let l = m.long in omega (arith, more, g, l)),
+      );
       long = more;
     }
 
@@ -145,15 +156,18 @@ no-ids : (cells : List (List Item)) → ((number : ℕ) → in_cell_at cells num
 no-ids [] h = refl
 no-ids (cell ∷ cells) h = (λ i. ids_of (h 0 i) ++ no-ids cells (λ n. h (suc n)) i)
 
-same-ids : (cells now : List (List Item)) → ((number : ℕ) → in_cell_at now number ≡ in_cell_at cells number) → length cells ≤ length now → flat_map ids_of now ≡ flat_map ids_of cells
+same-ids : (cells now : List (List Item)) → ((number : ℕ) → in_cell_at now number ≡ in_cell_at cells number) → length cells ≤ length now
+    → flat_map ids_of now ≡ flat_map ids_of cells
 same-ids [] now h long = no-ids now h
 same-ids (cell ∷ cells) [] h long = absurd (omega arith)
 same-ids (cell ∷ cells) (other ∷ now) h long = (λ i. ids_of (h 0 i) ++ same-ids cells now (λ n. h (suc n)) (omega arith) i)
 
 -- the state before with these cells
-same_sound : (before : State) (cells : List (List Item)) → IsSound before → AreSame before.cells cells → IsSound (record { document = before.document; cells = cells })
+same_sound : (before : State) (cells : List (List Item)) → IsSound before → AreSame before.cells cells
+    → IsSound (record { document = before.document; cells = cells })
 same_sound before cells sound same =
-    let ids : ids_in before.document.items before.cells ≡ ids_in before.document.items cells = ap (λ ids. ids_of before.document.items ++ ids) (sym (same-ids before.cells cells same.0 same.1)) in
+    let ids : ids_in before.document.items before.cells ≡ ids_in before.document.items cells = ap (λ ids. ids_of before.document.items ++ ids)
+    (sym (same-ids before.cells cells same.0 same.1)) in
     record {
       distinct = subst (IsDistinct nat_eq) ids sound.distinct;
       drawn = subst (All (λ id. (1 ≤ id) × (id < before.document.next_id))) ids sound.drawn;
@@ -180,7 +194,8 @@ at_moment before done held leads = record {
   led = leads.led;
 }
 
-module _ (done : Done) (held : Held) (items : List Item) (old cells : List (List Item)) (e : after held.state.document.items held.state.cells (back done.operation done.cell) ≡ Ok (items, old))
+module _ (done : Done) (held : Held) (items : List Item) (old cells : List (List Item))
+    (e : after held.state.document.items held.state.cells (back done.operation done.cell) ≡ Ok (items, old))
     (emptied : cells ≡ set old done.cell []) where
   -- the items and the cells are those from before, but for cells that are empty
   goes_back : (before : State) → Leads before done held → Returned before held items cells
@@ -205,6 +220,7 @@ module _ (done : Done) (held : Held) (items : List Item) (old cells : List (List
   again_long leads = (goes_back leads.0 leads.1).long
 
 -- the same operation on the same items and cells
-pub after_same : (items there : List Item) (cells here : List (List Item)) (operation named : Operation) (made : Both) → items ≡ there → cells ≡ here → operation ≡ named → after items cells operation ≡ Ok made
+pub after_same : (items there : List Item) (cells here : List (List Item)) (operation named : Operation) (made : Both) → items ≡ there → cells ≡ here
+    → operation ≡ named → after items cells operation ≡ Ok made
     → after there here named ≡ Ok made
 after_same items there cells here operation named made p q r e = sym (λ i. after (p i) (q i) (r i)) ∙ e

@@ -7,7 +7,8 @@ use Rattle.document_definitions.specs.Sound.{IsSound}
 use Rattle.model_doc.specs.Held.{Held}
 use Rattle.model_doc.specs.Records.{Done, done_on, LedTo, Leads}
 
-pub led_to : (before made : State) (operation : Operation) (done : Done) (held : Held) → IsSound before → AreOrdered before.document.items → HasPlaces operation → 1 ≤ held.mark → applied operation before ≡ Ok made → held.state ≡ made
+pub led_to : (before made : State) (operation : Operation) (done : Done) (held : Held) → IsSound before → AreOrdered before.document.items
+    → HasPlaces operation → 1 ≤ held.mark → applied operation before ≡ Ok made → held.state ≡ made
     → done ≡ done_on before operation made held.mark → Leads before done held
 led_to before made operation done held sound ordered places some e here is = record {
   sound = sound;

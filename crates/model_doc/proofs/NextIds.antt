@@ -33,7 +33,8 @@ raised-more next xs ys = ap (raised next) (ids-append xs ys) ∙ raised-append n
 pub by_text : (node : Node) (text : TextParts) (next : ℕ) → node ≡ Run text → next ≡ raised next (ids_of (items_at node))
 by_text node text next is = sym (ap (λ n. raised next (ids_of (items_at n))) is ∙ ap (raised next) (ids-characters text.attributes text.scalars))
 
-pub by_element : (node : Node) (head : HeadParts) (children : List Item) (next made : ℕ) → node ≡ Element head children → made ≡ raised (max next (head.id + 1)) (ids_of children)
+pub by_element : (node : Node) (head : HeadParts) (children : List Item) (next made : ℕ) → node ≡ Element head children
+    → made ≡ raised (max next (head.id + 1)) (ids_of children)
     → made ≡ raised next (ids_of (items_at node))
 by_element node head children next made is e =
     let above = max next (head.id + 1) in
@@ -42,13 +43,16 @@ by_element node head children next made is e =
 
 -- the node at an index, and then those behind it
 pub next_node : (read nodes : List Node) (index : ℕ) (node : Node) (next above made : ℕ) → read ≡ nodes → index < length nodes → node ≡ get_or read index node
-    → raised above (ids_of (items_in (drop index nodes))) ≡ next → made ≡ raised above (ids_of (items_at node)) → raised made (ids_of (items_in (drop (index + 1) nodes))) ≡ next
+    → raised above (ids_of (items_in (drop index nodes))) ≡ next → made ≡ raised above (ids_of (items_at node))
+    → raised made (ids_of (items_in (drop (index + 1) nodes))) ≡ next
 next_node read nodes index node next above made same less found all e =
     ap (λ n. raised n (ids_of (items_in (drop (index + 1) nodes)))) e
-    ∙ sym (ap (λ items. raised above (ids_of items)) (from_on read nodes index node same less found) ∙ raised-more above (items_at node) (items_in (drop (index + 1) nodes)))
+    ∙ sym (ap (λ items. raised above (ids_of items)) (from_on read nodes index node same less found)
+    ∙ raised-more above (items_at node) (items_in (drop (index + 1) nodes)))
     ∙ all
 
-pub node_flat : (read nodes : List Node) (index : ℕ) (node : Node) (items : List Item) → read ≡ nodes → index < length nodes → node ≡ get_or read index node → items_in nodes ≡ items
+pub node_flat : (read nodes : List Node) (index : ℕ) (node : Node) (items : List Item) → read ≡ nodes → index < length nodes
+    → node ≡ get_or read index node → items_in nodes ≡ items
     → depth_of (items_at node) ≤ depth_of items
 node_flat read nodes index node items same less found whole =
     let a = ap depth_of (from_on read nodes index node same less found) in

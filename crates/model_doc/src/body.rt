@@ -152,7 +152,8 @@ impl Body {
         requires { IsWelcome (operation_of operation) self.old.state }
         ensures ok { OnOk result (applied (operation_of operation) self.old.state ≡ Ok self.new.state) }
         ensures mark { OnOk result (self.new.mark ≡ self.old.mark + 1) }
-        ensures records { OnOk result (records.new.items ≡ records.old.items ++ done_on self.old.state (operation_of operation) self.new.state (self.old.mark + 1) ∷ []) }
+        ensures records { OnOk result (records.new.items ≡ records.old.items ++ done_on self.old.state (operation_of operation) self.new.state
+            (self.old.mark + 1) ∷ []) }
         ensures refused { IfErr result (λ fault. fault ≢ OpFault.NoMemory → refusal (applied (operation_of operation) self.old.state) ≡ Some fault) }
     {
         match self.after(&operation) {
@@ -205,7 +206,8 @@ impl Body {
     fn taken_back(&self, done: &Record) -> Result<(Tree, Cells), NoMemory>
         requires split { SplitsElement done.now.operation }
         requires limits { IsWithin (back done.now.operation done.now.cell) }
-        requires fine { (made : List Item × List (List Item)) × (after self.now.state.document.items self.now.state.cells (back done.now.operation done.now.cell) ≡ Ok made) }
+        requires fine { (made : List Item × List (List Item))
+            × (after self.now.state.document.items self.now.state.cells (back done.now.operation done.now.cell) ≡ Ok made) }
         ensures { IfOk result (λ made. after self.now.state.document.items self.now.state.cells (back done.now.operation done.now.cell) ≡ Ok (made.0, made.1)) }
     {
         let mut tree = self.tree.copy()?;

@@ -134,7 +134,8 @@ impl Document {
         ensures ok { OnOk result (all_applied (map operation_of operations.items) self.old.state ≡ Ok self.new.state) }
         ensures records { OnOk result (batch.new.records ≡ batch.old.records ++ records_of (map operation_of operations.items) self.old.state self.old.mark) }
         ensures mark { OnOk result (self.new.mark ≡ self.old.mark + length operations.items) }
-        ensures refused { IfErr result (λ fault. fault ≢ OpFault.NoMemory → refusal (all_applied (map operation_of operations.items) self.old.state) ≡ Some fault) }
+        ensures refused { IfErr result (λ fault. fault ≢ OpFault.NoMemory → refusal (all_applied (map operation_of operations.items) self.old.state)
+            ≡ Some fault) }
         ensures err { OnErr result (self.new ≡ self.old) }
         ensures no_records { OnErr result (batch.new.records ≡ batch.old.records) }
         ensures selection { batch.new.selection ≡ batch.old.selection }

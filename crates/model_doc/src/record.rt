@@ -33,7 +33,15 @@ impl Model for Record {
 
     ghost coded = { Prim.hlevel (codes, coded_item) };
 
-    ghost view = { λ made. record { operation = operation_of made.operation; cell = made.cell; number = made.number; markers = made.markers; selection = made.selection; next_id = made.next_id } };
+    ghost view = { λ made. record {
+      operation = operation_of made.operation;
+      cell = made.cell;
+      number = made.number;
+      markers = made.markers;
+      selection =
+          made.selection;
+      next_id = made.next_id;
+    } };
 }
 
 impl Record {

@@ -1,5 +1,6 @@
 -- What is in cells.
-use Rattle.std.proofs.Common.{◌≡◌, ℕ, zero, suc, ◌-◌, ◌<◌, ◌≤◌, ◌^◌, min, Bool, true, false, ◌&&◌, nat_lt, nat_le, ◌==◌, if◌then◌else◌, List, [], ◌∷◌, ◌++◌, length, get_or, set, Some, None, slice_get, refl, sym, ap, ◌∙◌, arith}
+use Rattle.std.proofs.Common.{◌≡◌, ℕ, zero, suc, ◌-◌, ◌<◌, ◌≤◌, ◌^◌, min, Bool, true, false, ◌&&◌, nat_lt, nat_le, ◌==◌, if◌then◌else◌, List, [], ◌∷◌, ◌++◌}
+use Rattle.std.proofs.Common.{length, get_or, set, Some, None, slice_get, refl, sym, ap, ◌∙◌, arith}
 use Rattle.std.proofs.lemmas.Option.{slice_get_within, get_or_from_slice_get}
 use Rattle.std.proofs.lemmas.Bool.Decides.{nat_tests}
 use Rattle.item_definitions.specs.Item.{Item}
@@ -41,10 +42,13 @@ module _ (cells : List (List Item)) (number : ℕ) where
       next : (t u : Bool) → t ≡ (number == length cells) → u ≡ nat_le number (length cells) → t ≡ (u && true)
       next true true t u = refl
       next false false t u = refl
-      next true false t u = absurd (let same : number ≡ length cells = grind (arith, nat_tests) in let more : length cells < number = grind (arith, nat_tests) in omega arith)
-      next false true t u = absurd (let less : number ≤ length cells = grind (arith, nat_tests) in let most = none-past cells number e in let same : number ≡ length cells = omega arith in let f : (number == length cells) ≡ true = grind (arith, nat_tests) in cc)
+      next true false t u = absurd (let same : number ≡ length cells = grind (arith, nat_tests) in let more : length cells
+          < number = grind (arith, nat_tests) in omega arith)
+      next false true t u = absurd (let less : number ≤ length cells = grind (arith, nat_tests) in let most = none-past cells number e
+          in let same : number ≡ length cells = omega arith in let f : (number == length cells) ≡ true = grind (arith, nat_tests) in cc)
 
-  pub holds_there : (xs : List Item) (long count : ℕ) → Some xs ≡ slice_get cells number → long ≡ min (length xs) (2 ^ 64 - 1) → count < 2 ^ 32 → (long == count) ≡ holds_count cells number count
+  pub holds_there : (xs : List Item) (long count : ℕ) → Some xs ≡ slice_get cells number → long ≡ min (length xs) (2 ^ 64 - 1) → count < 2 ^ 32
+      → (long == count) ≡ holds_count cells number count
   holds_there xs long count e l small =
       let less = within xs e in
       let yes : nat_lt number (length cells) ≡ true = grind (arith, nat_tests) in
@@ -53,8 +57,10 @@ module _ (cells : List (List Item)) (number : ℕ) where
       many : (t u : Bool) → t ≡ (long == count) → u ≡ (length xs == count) → t ≡ u
       many true true t u = refl
       many false false t u = refl
-      many true false t u = absurd (let same : long ≡ count = grind (arith, nat_tests) in let also : length xs ≡ count = omega (arith, same, l, small) in let f : (length xs == count) ≡ true = grind (arith, nat_tests) in cc)
-      many false true t u = absurd (let same : length xs ≡ count = grind (arith, nat_tests) in let also : long ≡ count = omega (arith, same, l, small) in let f : (long == count) ≡ true = grind (arith, nat_tests) in cc)
+      many true false t u = absurd (let same : long ≡ count = grind (arith, nat_tests) in let also : length xs ≡ count = omega (arith, same, l, small)
+          in let f : (length xs == count) ≡ true = grind (arith, nat_tests) in cc)
+      many false true t u = absurd (let same : length xs ≡ count = grind (arith, nat_tests) in let also : long ≡ count = omega (arith, same, l, small)
+          in let f : (long == count) ≡ true = grind (arith, nat_tests) in cc)
 
   pub holds_none : (count : ℕ) → None ≡ slice_get cells number → false ≡ holds_count cells number count
   holds_none count e =
@@ -63,10 +69,12 @@ module _ (cells : List (List Item)) (number : ℕ) where
       sym (ap (λ t. t && (length (in_cell_at cells number) == count)) no)
 
   pub fill_there : (items : List Item) → number < length cells → set cells number items ≡ fill cells number items
-  fill_there items less = (let yes : nat_lt number (length cells) ≡ true = grind (arith, nat_tests) in sym (ap (λ t. if t then set cells number items else cells ++ items ∷ []) yes))
+  fill_there items less = (let yes : nat_lt number (length cells) ≡ true = grind (arith, nat_tests)
+      in sym (ap (λ t. if t then set cells number items else cells ++ items ∷ []) yes))
 
   pub fill_next : (items : List Item) → length cells ≤ number → cells ++ items ∷ [] ≡ fill cells number items
-  fill_next items most = (let no : nat_lt number (length cells) ≡ false = grind (arith, nat_tests) in sym (ap (λ t. if t then set cells number items else cells ++ items ∷ []) no))
+  fill_next items most = (let no : nat_lt number (length cells) ≡ false = grind (arith, nat_tests)
+      in sym (ap (λ t. if t then set cells number items else cells ++ items ∷ []) no))
 
 -- a cell that isn't there can't be emptied
 pub set_none : (cells : List (List Item)) (number : ℕ) (items : List Item) → length cells ≤ number → cells ≡ set cells number items

@@ -1,5 +1,7 @@
 -- What a merge plans.
-use Rattle.std.proofs.Common.{◌≡◌, ◌≢◌, ℕ, zero, suc, ◌+◌, ◌-◌, ◌<◌, ◌^◌, min, Bool, true, false, not, IsTrue, ◌↔◌, nat_eq, nat_lt, if◌then◌else◌, List, [], ◌∷◌, ◌++◌, length, take, drop, Option, Some, None, option_map, option_and_then, slice_get, ok_or, Result, Ok, refl, sym, ap, ◌∙◌, arith}
+use Rattle.std.proofs.Common.{◌≡◌, ◌≢◌, ℕ, zero, suc, ◌+◌, ◌-◌, ◌<◌, ◌^◌, min, Bool, true, false, not, IsTrue, ◌↔◌, nat_eq, nat_lt, if◌then◌else◌, List, []}
+use Rattle.std.proofs.Common.{◌∷◌, ◌++◌, length, take, drop, Option, Some, None, option_map, option_and_then, slice_get, ok_or, Result, Ok, refl, sym, ap, ◌∙◌}
+use Rattle.std.proofs.Common.{arith}
 use Rattle.std.specs.Cmp.Lexicographic.{pointwise}
 use Rattle.std.proofs.lemmas.Bool.Decides.{nat_tests}
 use Rattle.item_definitions.specs.Item.{Item, character, element, list_of, inner}
@@ -19,10 +21,12 @@ use Rattle.item_definitions.specs.Position.{path_before}
 use Rattle.model_ops.proofs.Renamed.{changed_level}
 
 -- the items of the element that a path goes on to
-children-below : (parent : List ℕ) (index : ℕ) (xs level kids : List Item) (item : Item) → children_at parent xs ≡ Some level → slice_get level index ≡ Some item → inner item ≡ Some kids → children_at (parent ++ index ∷ []) xs ≡ Some kids
+children-below : (parent : List ℕ) (index : ℕ) (xs level kids : List Item) (item : Item) → children_at parent xs ≡ Some level → slice_get level index
+    ≡ Some item → inner item ≡ Some kids → children_at (parent ++ index ∷ []) xs ≡ Some kids
 children-below [] index xs level kids item e s h =
     let same : xs ≡ level = cc in
-    ap (option_and_then (λ item. option_and_then (children_at []) (inner item))) (ap (λ l. slice_get l index) same ∙ s) ∙ ap (option_and_then (children_at [])) h
+    ap (option_and_then (λ item. option_and_then (children_at []) (inner item))) (ap (λ l. slice_get l index) same ∙ s)
+    ∙ ap (option_and_then (children_at [])) h
 children-below (first ∷ parent) index xs level kids item e s h =
     let t = through xs first parent level e in
     ap (option_and_then (λ item. option_and_then (children_at (parent ++ index ∷ [])) (inner item))) t.there
@@ -95,7 +99,8 @@ module _ (right target : List ℕ) (number : ℕ) (xs : List Item) (cells : List
   pub merge_apart : (IsLeftEnd right target xs → ⊥) → refusal (effect xs cells (merge right target number)) ≡ Some NotNeighbours
   merge_apart apart = go (nat_lt 0 (offset_of right)) refl made_at refl
     where
-      test : (second : nat_lt 0 (offset_of right) ≡ true) (made : List Item × (Item × ℕ)) → made_at ≡ Some made → (t : Bool) → t ≡ pointwise nat_eq target (end_of made.1.1)
+      test : (second : nat_lt 0 (offset_of right) ≡ true) (made : List Item × (Item × ℕ)) → made_at ≡ Some made → (t : Bool)
+          → t ≡ pointwise nat_eq target (end_of made.1.1)
           → refusal (check t not_neighbours >>= (λ _. last made)) ≡ Some NotNeighbours
       test second made e true t =
           let same = same_numbers target (end_of made.1.1) (sym t) in
@@ -125,14 +130,17 @@ module _ (right target : List ℕ) (number : ℕ) (xs : List Item) (cells : List
     tested : effect xs cells (merge right target number) ≡ (check (is_free cells number) (cell_state number) >>= (λ _. Ok (rest, fill cells number emptied)))
     tested = go (nat_lt 0 (offset_of right)) made_at refl there
       where
-        filled : (made : List Item × (Item × ℕ)) → both made ≡ (rest, emptied) → last made ≡ (check (is_free cells number) (cell_state number) >>= (λ _. Ok (rest, fill cells number emptied)))
+        filled : (made : List Item × (Item × ℕ)) → both made ≡ (rest, emptied)
+            → last made ≡ (check (is_free cells number) (cell_state number) >>= (λ _. Ok (rest, fill cells number emptied)))
         filled made e = ap (λ (p : List Item × List Item). check (is_free cells number) (cell_state number) >>= (λ _. Ok (p.0, fill cells number p.1))) e
 
         target-is : (made : List Item × (Item × ℕ)) → made_at ≡ Some made → pointwise nat_eq target (end_of made.1.1) ≡ true
         target-is made e =
             let count : Some (offset_of target) ≡ Some made.1.1 = sym end.end ∙ ap (child_count xs) end.before ∙ left-count made e in
             let same : offset_of target ≡ made.1.1 = cc in
-            numbers_same target (end_of made.1.1) (path-joined target (λ root. push-some (parent_of right) (offset_of right - 1) (sym end.before ∙ ap parent_of root)) ∙ (λ i. end.before i ++ same i ∷ []) ∙ sym (end-joined (parent_of right) (offset_of right - 1) made.1.1))
+            numbers_same target (end_of made.1.1)
+            (path-joined target (λ root. push-some (parent_of right) (offset_of right - 1) (sym end.before ∙ ap parent_of root))
+            ∙ (λ i. end.before i ++ same i ∷ []) ∙ sym (end-joined (parent_of right) (offset_of right - 1) made.1.1))
 
         go : (s : Bool) (o : Option (List Item × (Item × ℕ))) → made_at ≡ o → (if s then option_map both o else None) ≡ Some (rest, emptied)
             → steps s o ≡ (check (is_free cells number) (cell_state number) >>= (λ _. Ok (rest, fill cells number emptied)))
@@ -164,7 +172,8 @@ pub not_end : (right target : List ℕ) (xs : List Item) → (IsLeftEnd right ta
 not_end right target xs none = (λ f. absurd cc, λ end. absurd (none end))
 
 -- whether a position is behind the items of the element before another one, where both paths are taken apart
-module _ (right target above parent left : List ℕ) (before index count : ℕ) (xs : List Item) (l : left ≡ above ++ before ∷ []) (p : left ≡ parent_of target) (o : count ≡ offset_of target) (r : right ≡ parent ++ index ∷ []) where
+module _ (right target above parent left : List ℕ) (before index count : ℕ) (xs : List Item) (l : left ≡ above ++ before ∷ []) (p : left
+    ≡ parent_of target) (o : count ≡ offset_of target) (r : right ≡ parent ++ index ∷ []) where
   right-parent : parent_of right ≡ parent
   right-parent = ap parent_of r ∙ parent_of-push parent index
 
@@ -172,11 +181,13 @@ module _ (right target above parent left : List ℕ) (before index count : ℕ) 
   right-index = ap offset_of r ∙ offset_of-push parent index
 
   pub left_elsewhere : (above ≡ parent → ⊥) → IsLeftEnd right target xs → ⊥
-  left_elsewhere differ end = differ (sym (parent_of-push above before) ∙ ap parent_of (sym l ∙ p ∙ end.before) ∙ parent_of-push (parent_of right) (offset_of right - 1) ∙ right-parent)
+  left_elsewhere differ end = differ (sym (parent_of-push above before) ∙ ap parent_of (sym l ∙ p ∙ end.before)
+      ∙ parent_of-push (parent_of right) (offset_of right - 1) ∙ right-parent)
 
   pub left_other : before + 1 ≢ index → IsLeftEnd right target xs → ⊥
   left_other differ end =
-      let same : before ≡ offset_of right - 1 = sym (offset_of-push above before) ∙ ap offset_of (sym l ∙ p ∙ end.before) ∙ offset_of-push (parent_of right) (offset_of right - 1) in
+      let same : before ≡ offset_of right - 1 = sym (offset_of-push above before) ∙ ap offset_of (sym l ∙ p ∙ end.before)
+      ∙ offset_of-push (parent_of right) (offset_of right - 1) in
       differ (omega (arith, same, right-index, end.second))
 
   module _ (same : above ≡ parent) (next : before + 1 ≡ index) (level : List Item) (there : Some level ≡ children_at left xs) where
@@ -193,7 +204,8 @@ module _ (right target above parent left : List ℕ) (before index count : ℕ) 
         }
 
     left_short : IsLeftEnd right target xs → length level ≡ count
-    left_short end = (let f : Some (length level) ≡ Some (offset_of target) = sym counted ∙ end.end in let g : length level ≡ offset_of target = cc in g ∙ sym o)
+    left_short end = (let f : Some (length level) ≡ Some (offset_of target) = sym counted ∙ end.end in let g : length level ≡ offset_of target = cc in g
+        ∙ sym o)
 
     pub is_end : (long : ℕ) → long ≡ min (length level) (2 ^ 64 - 1) → count < 2 ^ 32 → IsTrue (nat_eq long count) ↔ IsLeftEnd right target xs
     is_end long e small = (λ t. left_end (omega (arith, e, small, same-count t)), λ end. count-same (omega (arith, e, small, left_short end)))

@@ -4,7 +4,8 @@ use Rattle.item_definitions.specs.Item.{Item}
 use Rattle.item_definitions.specs.Children.{parent_of, offset_of, child_count}
 use Rattle.item_definitions.specs.Position.{path_before}
 use Rattle.operation_definitions.specs.Operation as meant
-use Rattle.operation_definitions.specs.Operation.{found_value, found_name, no_place, not_flat, into_itself, old_differs, not_neighbours, cell_state, too_large, too_deep}
+use Rattle.operation_definitions.specs.Operation.{found_value, found_name, no_place, not_flat, into_itself, old_differs, not_neighbours, cell_state, too_large}
+use Rattle.operation_definitions.specs.Operation.{too_deep}
 use Rattle.operation_definitions.specs.After.{◌>>=◌, fill, have_value}
 use Rattle.ck_base.specs.declared.value.Value.{Value as AttributeValue}
 use Rattle.model_tree.specs.declared.fault.TreeFault.{TreeFault}

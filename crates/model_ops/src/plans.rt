@@ -211,7 +211,8 @@ fn give(
     old: Option<&Value>,
     new: Option<&Value>,
 ) -> Result<Change, OpFault>
-    ensures { (cells : List (List Item)) → Plans (given_if (option_copied old.entry) key.now (at parent.now (give start count key.now (option_copied new.entry)) items.now) cells) cells result }
+    ensures { (cells : List (List Item))
+        → Plans (given_if (option_copied old.entry) key.now (at parent.now (give start count key.now (option_copied new.entry)) items.now) cells) cells result }
 {
     let Some(level) = items.list_at(parent) else {
         return Err(OpFault::NoPlace);

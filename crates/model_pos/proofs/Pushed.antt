@@ -1,5 +1,6 @@
 -- How the parts of a range in an element are seen from above.
-use Rattle.std.proofs.Common.{◌≡◌, ℕ, ◌+◌, ◌<◌, ◌≤◌, true, false, ◌==◌, if◌then◌else◌, List, [], ◌∷◌, ◌++◌, map, Option, Result, Ok, Err, OnOk, unwrap_or, refl, sym, ap, ◌∙◌, subst, arith, append_assoc, append-nil}
+use Rattle.std.proofs.Common.{◌≡◌, ℕ, ◌+◌, ◌<◌, ◌≤◌, true, false, ◌==◌, if◌then◌else◌, List, [], ◌∷◌, ◌++◌, map, Option, Result, Ok, Err, OnOk, unwrap_or, refl}
+use Rattle.std.proofs.Common.{sym, ap, ◌∙◌, subst, arith, append_assoc, append-nil}
 use Rattle.std.proofs.lemmas.Bool.Decides.{nat_tests}
 use Rattle.std.proofs.lemmas.List.{map-append}
 use Rattle.item_definitions.specs.Position.{Range, between, not_after}
@@ -21,21 +22,24 @@ maps-root [] = refl
 maps-root (part ∷ parts) = ap (λ rest. part ∷ rest) (maps-root parts)
 
 inner-parts : (above : List ℕ) (i : ℕ) (rest : List ℕ) (counts : List ℕ → Option ℕ)
-    → map (below (above ++ i ∷ [])) (parts_behind (counts_below (above ++ i ∷ []) counts) rest) ≡ map (below above) (map (under i) (parts_behind (counts_under i (counts_below above counts)) rest))
+    → map (below (above ++ i ∷ [])) (parts_behind (counts_below (above ++ i ∷ []) counts) rest)
+    ≡ map (below above) (map (under i) (parts_behind (counts_under i (counts_below above counts)) rest))
 inner-parts above i rest counts =
     ap (λ c. map (below (above ++ i ∷ [])) (parts_behind c rest)) (sym (counts-under above i counts))
     ∙ sym (maps-under above i (parts_behind (counts_under i (counts_below above counts)) rest))
 
 module _ (above : List ℕ) (front one two : List Range) where
   -- what is behind a position is what is behind it in the item that it is in, and what is behind that item
-  pub behind-step : (i count : ℕ) (path rest lower : List ℕ) (counts : List ℕ → Option ℕ) → lower ≡ above ++ i ∷ [] → path ≡ i ∷ rest → count ≡ unwrap_or (counts above) 0
+  pub behind-step : (i count : ℕ) (path rest lower : List ℕ) (counts : List ℕ → Option ℕ) → lower ≡ above ++ i ∷ [] → path ≡ i ∷ rest
+      → count ≡ unwrap_or (counts above) 0
       → one ≡ front ++ map (below lower) (parts_behind (counts_below lower counts) rest)
       → two ≡ one ++ map (below above) (run (next_offset i rest) count)
       → two ≡ front ++ map (below above) (parts_behind (counts_below above counts) path)
   behind-step i count path rest lower counts d e f g' h =
       let g = subst (λ p. one ≡ front ++ map (below p) (parts_behind (counts_below p counts) rest)) d g' in
       let inner = parts_behind (counts_under i (counts_below above counts)) rest in
-      h ∙ ap (λ (parts : List Range). parts ++ map (below above) (run (next_offset i rest) count)) (g ∙ ap (λ (parts : List Range). front ++ parts) (inner-parts above i rest counts))
+      h ∙ ap (λ (parts : List Range). parts ++ map (below above) (run (next_offset i rest) count)) (g
+      ∙ ap (λ (parts : List Range). front ++ parts) (inner-parts above i rest counts))
       ∙ append_assoc front (map (below above) (map (under i) inner)) (map (below above) (run (next_offset i rest) count))
       ∙ ap (λ (parts : List Range). front ++ parts) (sym (map-append (below above) (map (under i) inner) (run (next_offset i rest) count)))
       ∙ ap (λ n. front ++ map (below above) (map (under i) inner ++ run (next_offset i rest) n)) (f ∙ ap (λ a. unwrap_or (counts a) 0) (sym (append-nil above)))
@@ -52,7 +56,8 @@ module _ (above : List ℕ) (front one two : List Range) where
       ∙ ap (λ p. front ++ map (below above) (parts_before p)) (sym e)
 
   -- two positions in one item
-  pub same-step : (i j : ℕ) (start path end rest lower : List ℕ) (counts : List ℕ → Option ℕ) → lower ≡ above ++ i ∷ [] → start ≡ i ∷ path → end ≡ j ∷ rest → i ≡ j
+  pub same-step : (i j : ℕ) (start path end rest lower : List ℕ) (counts : List ℕ → Option ℕ) → lower ≡ above ++ i ∷ [] → start ≡ i ∷ path
+      → end ≡ j ∷ rest → i ≡ j
       → one ≡ front ++ map (below lower) (parts_between (counts_below lower counts) path rest)
       → one ≡ front ++ map (below above) (parts_between (counts_below above counts) start end)
   same-step i j start path end rest lower counts d e f same g' =
@@ -61,7 +66,8 @@ module _ (above : List ℕ) (front one two : List Range) where
       (ap (λ c. map (below (above ++ i ∷ [])) (parts_between c path rest)) (sym (counts-under above i counts))
       ∙ sym (maps-under above i (parts_between (counts_under i (counts_below above counts)) path rest)))
       ∙ ap (λ b. front ++ map (below above) (if b then map (under i) (parts_between (counts_under i (counts_below above counts)) path rest)
-      else map (under i) (parts_behind (counts_under i (counts_below above counts)) path) ++ (run (next_offset i path) j ++ map (under j) (parts_before rest)))) (yes i j same)
+      else map (under i) (parts_behind (counts_under i (counts_below above counts)) path)
+      ++ (run (next_offset i path) j ++ map (under j) (parts_before rest)))) (yes i j same)
       ∙ (λ t. front ++ map (below above) (parts_between (counts_below above counts) (sym e t) (sym f t)))
     where
       yes : (i j : ℕ) → i ≡ j → true ≡ (i == j)
@@ -69,11 +75,13 @@ module _ (above : List ℕ) (front one two : List Range) where
 
   -- two positions in different items
   pub apart-step : (i j : ℕ) (start path end rest : List ℕ) (counts : List ℕ → Option ℕ) → start ≡ i ∷ path → end ≡ j ∷ rest → ¬ (i ≡ j)
-      → one ≡ front ++ map (below above) (map (under i) (parts_behind (counts_under i (counts_below above counts)) path) ++ (run (next_offset i path) j ++ map (under j) (parts_before rest)))
+      → one ≡ front ++ map (below above) (map (under i) (parts_behind (counts_under i (counts_below above counts)) path)
+      ++ (run (next_offset i path) j ++ map (under j) (parts_before rest)))
       → one ≡ front ++ map (below above) (parts_between (counts_below above counts) start end)
   apart-step i j start path end rest counts e f differ g =
       g ∙ ap (λ b. front ++ map (below above) (if b then map (under i) (parts_between (counts_under i (counts_below above counts)) path rest)
-      else map (under i) (parts_behind (counts_under i (counts_below above counts)) path) ++ (run (next_offset i path) j ++ map (under j) (parts_before rest)))) (no i j differ)
+      else map (under i) (parts_behind (counts_under i (counts_below above counts)) path)
+      ++ (run (next_offset i path) j ++ map (under j) (parts_before rest)))) (no i j differ)
       ∙ (λ t. front ++ map (below above) (parts_between (counts_below above counts) (sym e t) (sym f t)))
     where
       no : (i j : ℕ) → ¬ (i ≡ j) → false ≡ (i == j)
@@ -84,14 +92,16 @@ module _ (above : List ℕ) (front one two : List Range) where
       → one ≡ front ++ map (below lower) (parts_behind (counts_below lower counts) path)
       → two ≡ one ++ map (below above) (run (next_offset i path) j)
       → three ≡ two ++ map (below other) (parts_before rest)
-      → three ≡ front ++ map (below above) (map (under i) (parts_behind (counts_under i (counts_below above counts)) path) ++ (run (next_offset i path) j ++ map (under j) (parts_before rest)))
+      → three ≡ front ++ map (below above) (map (under i) (parts_behind (counts_under i (counts_below above counts)) path)
+      ++ (run (next_offset i path) j ++ map (under j) (parts_before rest)))
   pieces i j path rest lower other counts three c d e' f g' =
       let e = subst (λ p. one ≡ front ++ map (below p) (parts_behind (counts_below p counts) path)) c e' in
       let g = subst (λ p. three ≡ two ++ map (below p) (parts_before rest)) d g' in
       let inner = map (under i) (parts_behind (counts_under i (counts_below above counts)) path) in
       let middle = run (next_offset i path) j in
       let last = map (under j) (parts_before rest) in
-      g ∙ (λ t. (f ∙ ap (λ (parts : List Range). parts ++ map (below above) middle) (e ∙ ap (λ (parts : List Range). front ++ parts) (inner-parts above i path counts))) t ++ sym (maps-under above j (parts_before rest)) t)
+      g ∙ (λ t. (f ∙ ap (λ (parts : List Range). parts ++ map (below above) middle) (e
+      ∙ ap (λ (parts : List Range). front ++ parts) (inner-parts above i path counts))) t ++ sym (maps-under above j (parts_before rest)) t)
       ∙ append_assoc (front ++ map (below above) inner) (map (below above) middle) (map (below above) last)
       ∙ append_assoc front (map (below above) inner) (map (below above) middle ++ map (below above) last)
       ∙ ap (λ (parts : List Range). front ++ (map (below above) inner ++ parts)) (sym (map-append (below above) middle last))

@@ -142,7 +142,8 @@ fn push_between<C: Counts>(
 ) -> Result<(), NoMemory>
     requires start { length above.now + length start.now ≤ 65 }
     requires end { length above.now + length end.now ≤ 65 }
-    ensures { OnOk result (parts.new.items ≡ parts.old.items ++ map (below above.now) (parts_between (counts_below above.now (C.counts tree.now)) start.now end.now)) }
+    ensures { OnOk result (parts.new.items
+        ≡ parts.old.items ++ map (below above.now) (parts_between (counts_below above.now (C.counts tree.now)) start.now end.now)) }
 {
     let Some((index, path)) = start.split_first() else {
         return push_before(alloc, parts, above, end);

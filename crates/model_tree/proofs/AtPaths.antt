@@ -1,5 +1,6 @@
 -- Changes of the list of items at a path.
-use Rattle.std.proofs.Common.{◌≡◌, ℕ, ◌+◌, Bool, true, false, nat_le, if◌then◌else◌, List, [], ◌∷◌, ◌++◌, length, take, drop, Option, Some, None, option_map, option_and_then, slice_get, slice_set, refl, sym, ap, ◌∙◌}
+use Rattle.std.proofs.Common.{◌≡◌, ℕ, ◌+◌, Bool, true, false, nat_le, if◌then◌else◌, List, [], ◌∷◌, ◌++◌, length, take, drop, Option, Some, None, option_map}
+use Rattle.std.proofs.Common.{option_and_then, slice_get, slice_set, refl, sym, ap, ◌∙◌}
 use Rattle.item_definitions.specs.Item.{Item, inner, with_inner}
 use Rattle.item_definitions.specs.Children.{Change, children_at, at, at_index, in_item}
 use Rattle.operation_definitions.specs.Level.{replace}
@@ -37,7 +38,8 @@ through xs index path level e =
     record { item = a.0; children = b.0; there = a.1; here = b.1; below = b.2 }
 
 -- a change at an index is that of what is in the item there
-pub at-through : {R : Type 0} (f : Change R) (xs : List Item) (index : ℕ) (item : Item) (children : List Item) → slice_get xs index ≡ Some item → inner item ≡ Some children
+pub at-through : {R : Type 0} (f : Change R) (xs : List Item) (index : ℕ) (item : Item) (children : List Item) → slice_get xs index ≡ Some item
+    → inner item ≡ Some children
     → at_index index (in_item f) xs ≡ option_map (set_in xs index) (option_map (with_in item) (f children))
 at-through {R = R} f xs index item children e h =
     ap (option_and_then (λ item. option_map (set_in xs index) (in_item f item))) e
@@ -49,13 +51,15 @@ pub at-nowhere : {R : Type 0} (f : Change R) (path : List ℕ) (xs : List Item) 
 at-nowhere f [] xs e = absurd cc
 at-nowhere {R = R} f (index ∷ path) xs e = at_item (λ children h. at-nowhere f path children h) (slice_get xs index) e
   where
-    in_some : ((children : List Item) → children_at path children ≡ None → at path f children ≡ None) → (item : Item) (o : Option (List Item)) → option_and_then (children_at path) o ≡ None
+    in_some : ((children : List Item) → children_at path children ≡ None → at path f children ≡ None) → (item : Item) (o : Option (List Item))
+        → option_and_then (children_at path) o ≡ None
         → option_map (set_in xs index) (option_and_then (λ items. option_map (with_in item) (at path f items)) o) ≡ None
     in_some below item None e = refl
     in_some below item (Some children) e =
         ap (λ o. option_map (set_in xs index) (option_map (with_in item) o)) (below children e)
 
-    at_item : ((children : List Item) → children_at path children ≡ None → at path f children ≡ None) → (o : Option Item) → option_and_then (λ item. option_and_then (children_at path) (inner item)) o ≡ None
+    at_item : ((children : List Item) → children_at path children ≡ None → at path f children ≡ None) → (o : Option Item)
+        → option_and_then (λ item. option_and_then (children_at path) (inner item)) o ≡ None
         → option_and_then (λ item. option_map (set_in xs index) (in_item (at path f) item)) o ≡ None
     at_item below None e = refl
     at_item below (Some item) e = in_some below item (inner item) e
@@ -75,7 +79,8 @@ abbrev Put : Type 0
 Put = Option (List Item × Unit {0})
 
 -- a change of a run is that by which the items that it makes of the run stand in its place
-pub at-run : {R : Type 0} (f : Change R) (offset count : ℕ) (path : List ℕ) (xs level new : List Item) (r : R) → children_at path xs ≡ Some level → f (take count (drop offset level)) ≡ Some (new, r)
+pub at-run : {R : Type 0} (f : Change R) (offset count : ℕ) (path : List ℕ) (xs level new : List Item) (r : R) → children_at path xs ≡ Some level
+    → f (take count (drop offset level)) ≡ Some (new, r)
     → at path (replace offset count f) xs ≡ option_map (pair_with r) (put_run path offset count new xs)
 at-run {R = R} f offset count [] xs level new r e h =
     let same : level ≡ xs = cc in
@@ -110,7 +115,8 @@ pub record Inside {R : Type 0} (xs : List Item) (index : ℕ) (f : Change R) (ys
   pub made : f children ≡ Some (new, r)
   pub whole : slice_set xs index (with_inner new item) ≡ ys
 
-pub inside : {R : Type 0} (xs : List Item) (index : ℕ) (f : Change R) (ys : List Item) (r : R) → at_index index (in_item f) xs ≡ Some (ys, r) → Inside xs index f ys r
+pub inside : {R : Type 0} (xs : List Item) (index : ℕ) (f : Change R) (ys : List Item) (r : R) → at_index index (in_item f) xs ≡ Some (ys, r)
+    → Inside xs index f ys r
 inside {R = R} xs index f ys r e =
     let a = then-some (λ item. option_map (set_in xs index) (in_item f item)) (slice_get xs index) (ys, r) e in
     let b = map-some (set_in xs index) (in_item f a.0) (ys, r) a.2 in

@@ -32,8 +32,10 @@ depth-characters attributes [] = omega arith
 depth-characters attributes (scalar ∷ scalars) = omega (arith, depth-characters attributes scalars)
 
 -- the sizes of two lists give those of one with the other behind it
-pub sizes_append : (front back : List Item) (long count depth long' count' depth' long'' count'' depth'' : ℕ) → AreSizes front long count depth → AreSizes back long' count' depth'
-    → long'' ≡ min (long + long') (2 ^ 64 - 1) → count'' ≡ min (count + count') (2 ^ 64 - 1) → depth'' ≡ max depth depth' → AreSizes (front ++ back) long'' count'' depth''
+pub sizes_append : (front back : List Item) (long count depth long' count' depth' long'' count'' depth'' : ℕ) → AreSizes front long count depth
+    → AreSizes back long' count' depth'
+    → long'' ≡ min (long + long') (2 ^ 64 - 1) → count'' ≡ min (count + count') (2 ^ 64 - 1) → depth'' ≡ max depth depth'
+    → AreSizes (front ++ back) long'' count'' depth''
 sizes_append front back long count depth long' count' depth' long'' count'' depth'' f b l c d =
     record {
       long_is = omega (arith, f.long_is, b.long_is, l, length-append front back);
@@ -52,8 +54,10 @@ text_sizes attributes scalars long depth l small d =
     }
 
 -- the sizes of an element
-pub element_sizes : (id : ℕ) (name : List ℕ) (attributes : Attributes) (children : List Item) (long count depth count' depth' : ℕ) → AreSizes children long count depth
-    → count' ≡ min (count + 1) (2 ^ 64 - 1) → depth' ≡ min (depth + 1) (2 ^ 32 - 1) → AreSizes (element id name attributes (items_of children) ∷ []) 1 count' depth'
+pub element_sizes : (id : ℕ) (name : List ℕ) (attributes : Attributes) (children : List Item) (long count depth count' depth' : ℕ)
+    → AreSizes children long count depth
+    → count' ≡ min (count + 1) (2 ^ 64 - 1) → depth' ≡ min (depth + 1) (2 ^ 32 - 1)
+    → AreSizes (element id name attributes (items_of children) ∷ []) 1 count' depth'
 element_sizes id name attributes children long count depth count' depth' h c d =
     record {
       long_is = omega arith;

@@ -1,5 +1,6 @@
 -- How deep a tree is after a move.
-use Rattle.std.proofs.Common.{◌≡◌, ℕ, zero, suc, ◌+◌, ◌-◌, ◌≤◌, inl, inr, Bool, true, false, nat_le, if◌then◌else◌, List, [], ◌∷◌, length, take, drop, Option, Some, None, option_and_then, slice_get, refl, sym, ap, ◌∙◌, arith}
+use Rattle.std.proofs.Common.{◌≡◌, ℕ, zero, suc, ◌+◌, ◌-◌, ◌≤◌, inl, inr, Bool, true, false, nat_le, if◌then◌else◌, List, [], ◌∷◌, length, take, drop, Option}
+use Rattle.std.proofs.Common.{Some, None, option_and_then, slice_get, refl, sym, ap, ◌∙◌, arith}
 use Rattle.std.specs.Prelude.{IfSome}
 use Rattle.item_definitions.specs.Item.{Item, character, element, list_of, inner, item_depth, depth_of}
 use Rattle.item_definitions.specs.Children.{parent_of, offset_of, at}
@@ -17,7 +18,8 @@ use Rattle.model_tree.proofs.Limited.{at-depths, replace-depths, three-depth}
 use Rattle.model_tree.proofs.Room.{put_in_depth}
 
 -- what an element has in it is less deep than the list that it is in
-inner-flat : (xs : List Item) (index : ℕ) (item : Item) (children : List Item) → slice_get xs index ≡ Some item → inner item ≡ Some children → depth_of children ≤ depth_of xs
+inner-flat : (xs : List Item) (index : ℕ) (item : Item) (children : List Item) → slice_get xs index ≡ Some item → inner item ≡ Some children
+    → depth_of children ≤ depth_of xs
 inner-flat [] index item children e h = absurd cc
 inner-flat (x ∷ xs) zero item children e h = (let same : x ≡ item = cc in omega (arith, within item h, ap item_depth same))
   where
@@ -32,13 +34,20 @@ run-flat [] offset count xs ys run e =
     let r = replaced offset count (λ run. Some ([], run)) xs ys run e in
     let p : ◌≡◌ {A = Option (List Item × List Item)} (Some ([], take count (drop offset xs))) (Some (r.new, run)) = r.gives in
     let q : ◌≡◌ {A = List Item × List Item} ([], take count (drop offset xs)) (r.new, run) = cc in
-    omega (arith, ap (λ (both : List Item × List Item). depth_of both.1) q, ap depth_of (in_three offset count xs), three-depth (take offset xs) (take count (drop offset xs)) (drop (offset + count) xs))
+    omega (
+      arith,
+      ap (λ (both : List Item × List Item). depth_of both.1) q,
+      ap depth_of (in_three offset count xs),
+      three-depth (take offset xs)
+          (take count (drop offset xs)) (drop (offset + count) xs),
+    )
 run-flat (index ∷ path) offset count xs ys run e =
     let i = inside xs index (at path (take_out offset count)) ys run e in
     omega (arith, run-flat path offset count i.children i.new run i.made, inner-flat xs index i.item i.children i.there i.here)
 
 rest-flat : (path : List ℕ) (offset count : ℕ) (xs ys run : List Item) → at path (take_out offset count) xs ≡ Some (ys, run) → depth_of ys ≤ depth_of xs
-rest-flat path offset count xs ys run e = at-depths (take_out offset count) (λ xs ys r. replace-depths (λ run. Some ([], run)) (λ run new r g. none run new r g) offset count xs ys r) path xs ys run e
+rest-flat path offset count xs ys run e = at-depths (take_out offset count)
+    (λ xs ys r. replace-depths (λ run. Some ([], run)) (λ run new r g. none run new r g) offset count xs ys r) path xs ys run e
   where
     none : (run new r : List Item) → ◌≡◌ {A = Option (List Item × List Item)} (Some ([], run)) (Some (new, r)) → depth_of new ≤ depth_of run
     none run new r g =
@@ -57,9 +66,12 @@ cut-long [] offset count (number ∷ path) = go (nat_le (offset + count) number)
 cut-long (s ∷ parent) offset count [] = omega arith
 cut-long (s ∷ parent) offset count (i ∷ path) =
     elim (decide s i) [
-      | inl same ↦ (let e : cut (s ∷ parent) offset count (i ∷ path) ≡ s ∷ cut parent offset count path = ap (λ v. cut (s ∷ parent) offset count (v ∷ path)) (sym same) ∙ within-same s parent path (rule_remove offset count) in
+      | inl same ↦ (let e : cut (s ∷ parent) offset count (i ∷ path)
+          ≡ s ∷ cut parent offset count path = ap (λ v. cut (s ∷ parent) offset count (v ∷ path)) (sym same)
+          ∙ within-same s parent path (rule_remove offset count) in
           omega (arith, ap length e, cut-long parent offset count path))
-      | inr apart ↦ (let e : cut (s ∷ parent) offset count (i ∷ path) ≡ i ∷ path = within-other s i parent path (rule_remove offset count) apart in omega (arith, ap length e))
+      | inr apart ↦ (let e : cut (s ∷ parent) offset count (i ∷ path) ≡ i ∷ path = within-other s i parent path (rule_remove offset count) apart
+          in omega (arith, ap length e))
     ]
 
 parent-long : (path : List ℕ) → length (parent_of path) ≤ length path

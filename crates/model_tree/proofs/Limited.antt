@@ -11,31 +11,36 @@ use Rattle.model_tree.proofs.Counts.{count-append, depth-append, count-inner, de
 use Rattle.model_tree.proofs.AtPaths.{inside}
 
 -- other items in an element
-with-count : (item : Item) (children new : List Item) → inner item ≡ Some children → item_count (with_inner new item) + count_of children ≡ item_count item + count_of new
+with-count : (item : Item) (children new : List Item) → inner item ≡ Some children → item_count (with_inner new item) + count_of children
+    ≡ item_count item + count_of new
 with-count (character scalar attributes) children new e = absurd cc
 with-count (element id name attributes kids) children new e =
     let same : list_of kids ≡ children = cc in
     omega (arith, count-list kids, ap count_of same, count-inner new)
 
-with-depth : (item : Item) (children new : List Item) → inner item ≡ Some children → depth_of new ≤ depth_of children → item_depth (with_inner new item) ≤ item_depth item
+with-depth : (item : Item) (children new : List Item) → inner item ≡ Some children → depth_of new ≤ depth_of children → item_depth (with_inner new item)
+    ≤ item_depth item
 with-depth (character scalar attributes) children new e h = absurd cc
 with-depth (element id name attributes kids) children new e h =
     let same : list_of kids ≡ children = cc in
     omega (arith, depth-list kids, ap depth_of same, depth-inner new)
 
 -- another item at an index
-set-count : (xs : List Item) (index : ℕ) (x y : Item) → slice_get xs index ≡ Some x → count_of (slice_set xs index y) + item_count x ≡ count_of xs + item_count y
+set-count : (xs : List Item) (index : ℕ) (x y : Item) → slice_get xs index ≡ Some x → count_of (slice_set xs index y) + item_count x
+    ≡ count_of xs + item_count y
 set-count [] index x y e = absurd cc
 set-count (z ∷ xs) zero x y e = (let same : z ≡ x = cc in omega (arith, ap item_count same))
 set-count (z ∷ xs) (suc index) x y e = omega (arith, set-count xs index x y e)
 
-set-depth : (xs : List Item) (index : ℕ) (x y : Item) → slice_get xs index ≡ Some x → item_depth y ≤ item_depth x → depth_of (slice_set xs index y) ≤ depth_of xs
+set-depth : (xs : List Item) (index : ℕ) (x y : Item) → slice_get xs index ≡ Some x → item_depth y ≤ item_depth x → depth_of (slice_set xs index y)
+    ≤ depth_of xs
 set-depth [] index x y e h = absurd cc
 set-depth (z ∷ xs) zero x y e h = (let same : z ≡ x = cc in omega (arith, ap item_depth same))
 set-depth (z ∷ xs) (suc index) x y e h = omega (arith, set-depth xs index x y e h)
 
 -- a change that adds so many items and takes so many away also does so at a path
-pub at-counts : {R : Type 0} (f : Change R) (less added : R → ℕ) → ((xs ys : List Item) (r : R) → f xs ≡ Some (ys, r) → count_of ys + less r ≡ count_of xs + added r)
+pub at-counts : {R : Type 0} (f : Change R) (less added : R → ℕ)
+    → ((xs ys : List Item) (r : R) → f xs ≡ Some (ys, r) → count_of ys + less r ≡ count_of xs + added r)
     → (path : List ℕ) (xs ys : List Item) (r : R) → at path f xs ≡ Some (ys, r) → count_of ys + less r ≡ count_of xs + added r
 at-counts f less added h [] xs ys r e = h xs ys r e
 at-counts f less added h (index ∷ path) xs ys r e =
@@ -59,7 +64,8 @@ pub three-depth : (a b c : List Item) → depth_of (a ++ (b ++ c)) ≡ max (dept
 three-depth a b c = omega (arith, depth-append a (b ++ c), depth-append b c)
 
 -- the same of a change of a run
-pub replace-counts : {R : Type 0} (f : Change R) (less added : R → ℕ) → ((run new : List Item) (r : R) → f run ≡ Some (new, r) → count_of new + less r ≡ count_of run + added r)
+pub replace-counts : {R : Type 0} (f : Change R) (less added : R → ℕ)
+    → ((run new : List Item) (r : R) → f run ≡ Some (new, r) → count_of new + less r ≡ count_of run + added r)
     → (offset count : ℕ) (xs ys : List Item) (r : R) → replace offset count f xs ≡ Some (ys, r) → count_of ys + less r ≡ count_of xs + added r
 replace-counts f less added h offset count xs ys r e =
     let d = replaced offset count f xs ys r e in
@@ -82,9 +88,11 @@ first None = []
 first (Some made) = made.0
 
 -- the items that are taken out and those that stay are all
-pub take_out_counts : (path : List ℕ) (offset count : ℕ) (xs ys run : List Item) → at path (take_out offset count) xs ≡ Some (ys, run) → count_of ys + count_of run ≡ count_of xs
+pub take_out_counts : (path : List ℕ) (offset count : ℕ) (xs ys run : List Item) → at path (take_out offset count) xs ≡ Some (ys, run)
+    → count_of ys + count_of run ≡ count_of xs
 take_out_counts path offset count xs ys run e =
-    let counts = at-counts (take_out offset count) count_of (λ _. 0) (λ xs ys r. replace-counts (λ run. Some ([], run)) count_of (λ _. 0) (λ run new r g. taken run new r g) offset count xs ys r) path xs ys run e in
+    let counts = at-counts (take_out offset count) count_of (λ _. 0)
+    (λ xs ys r. replace-counts (λ run. Some ([], run)) count_of (λ _. 0) (λ run new r g. taken run new r g) offset count xs ys r) path xs ys run e in
     omega (arith, counts)
   where
     taken : (run new r : List Item) → ◌≡◌ {A = Option (List Item × List Item)} (Some ([], run)) (Some (new, r)) → count_of new + count_of r ≡ count_of run + 0
@@ -95,8 +103,10 @@ take_out_counts path offset count xs ys run e =
 -- what stays when items are taken out
 pub take_out_stays : (path : List ℕ) (offset count : ℕ) (xs ys run : List Item) → at path (take_out offset count) xs ≡ Some (ys, run) → IsTree xs → IsTree ys
 take_out_stays path offset count xs ys run e h =
-    let counts = at-counts (take_out offset count) count_of (λ _. 0) (λ xs ys r. replace-counts (λ run. Some ([], run)) count_of (λ _. 0) (λ run new r g. taken run new r g) offset count xs ys r) path xs ys run e in
-    let depths = at-depths (take_out offset count) (λ xs ys r. replace-depths (λ run. Some ([], run)) (λ run new r g. flat run new r g) offset count xs ys r) path xs ys run e in
+    let counts = at-counts (take_out offset count) count_of (λ _. 0)
+    (λ xs ys r. replace-counts (λ run. Some ([], run)) count_of (λ _. 0) (λ run new r g. taken run new r g) offset count xs ys r) path xs ys run e in
+    let depths = at-depths (take_out offset count) (λ xs ys r. replace-depths (λ run. Some ([], run)) (λ run new r g. flat run new r g) offset count xs
+    ys r) path xs ys run e in
     record { few = omega (arith, counts, h.few); flat = omega (arith, depths, h.flat) }
   where
     taken : (run new r : List Item) → ◌≡◌ {A = Option (List Item × List Item)} (Some ([], run)) (Some (new, r)) → count_of new + count_of r ≡ count_of run + 0

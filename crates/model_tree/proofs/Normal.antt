@@ -12,7 +12,8 @@ pub items-more : (front : List Node) (node : Node) → items_in (front ++ node �
 items-more front node = items-append front (node ∷ []) ∙ ap (λ items. items_in front ++ items) (append-nil (items_at node))
 
 -- the last node is replaced by one that also has the items of another node
-pub joined_items : (front old made : List Node) (last one node : Node) → old ≡ front ++ last ∷ [] → made ≡ front ++ one ∷ [] → items_at one ≡ items_at last ++ items_at node
+pub joined_items : (front old made : List Node) (last one node : Node) → old ≡ front ++ last ∷ [] → made ≡ front ++ one ∷ []
+    → items_at one ≡ items_at last ++ items_at node
     → items_in made ≡ items_in old ++ items_at node
 joined_items front old made last one node o m e =
     ap items_in m ∙ items-more front one ∙ ap (λ items. items_in front ++ items) e ∙ sym (append_assoc (items_in front) (items_at last) (items_at node))
@@ -24,7 +25,8 @@ front-normal (x ∷ []) back h = (h.0, tt, tt)
 front-normal (x ∷ y ∷ front) back h = (h.0, h.1, front-normal (y ∷ front) back h.2)
 
 -- a node that does not join the last one
-pub normal_more : (front : List Node) (last node : Node) → IsNormal (front ++ last ∷ []) → (Join last node → ⊥) → 0 < length (items_at node) → IsNormal ((front ++ last ∷ []) ++ node ∷ [])
+pub normal_more : (front : List Node) (last node : Node) → IsNormal (front ++ last ∷ []) → (Join last node → ⊥) → 0 < length (items_at node)
+    → IsNormal ((front ++ last ∷ []) ++ node ∷ [])
 normal_more [] last node h apart full = (h.0, apart, (full, tt, tt))
 normal_more (x ∷ []) last node h apart full = (h.0, h.1, (h.2.0, apart, (full, tt, tt)))
 normal_more (x ∷ y ∷ front) last node h apart full = (h.0, h.1, normal_more (y ∷ front) last node h.2 apart full)
@@ -41,7 +43,8 @@ replaced (x ∷ []) last one h like full = (h.0, (λ j. h.1 (join-trans x last o
 replaced (x ∷ y ∷ front) last one h like full = (h.0, h.1, replaced (y ∷ front) last one h.2 like full)
 
 -- a text in place of the last one, of equal attributes, with more characters
-pub normal_joined : (front old made : List Node) (last one node : Node) → old ≡ front ++ last ∷ [] → made ≡ front ++ one ∷ [] → items_at one ≡ items_at last ++ items_at node
+pub normal_joined : (front old made : List Node) (last one node : Node) → old ≡ front ++ last ∷ [] → made ≡ front ++ one ∷ []
+    → items_at one ≡ items_at last ++ items_at node
     → Join last one → 0 < length (items_at node) → IsNormal old → IsNormal made
 normal_joined front old made last one node o m e like full h =
     subst IsNormal (sym m) (replaced front last one (subst IsNormal o h) like (omega (arith, ap length e, length-append (items_at last) (items_at node))))

@@ -1,5 +1,6 @@
 -- Values of keys that items have.
-use Rattle.std.proofs.Common.{◌≡◌, ℕ, ◌<◌, Bool, true, false, not, List, [], ◌∷◌, ◌++◌, map, length, Option, Some, option_map, if◌then◌else◌, refl, sym, ap, ◌∙◌, arith}
+use Rattle.std.proofs.Common.{◌≡◌, ℕ, ◌<◌, Bool, true, false, not, List, [], ◌∷◌, ◌++◌, map, length, Option, Some, option_map, if◌then◌else◌, refl, sym, ap}
+use Rattle.std.proofs.Common.{◌∙◌, arith}
 use Rattle.std.specs.Prelude.{IsTrue, ◌↔◌}
 use Rattle.ck_base.specs.declared.value.Value.{Value as AttributeValue}
 use Rattle.ck_base.specs.Entries.{value_of}
@@ -30,12 +31,14 @@ text_value key text value e = go text.scalars
     go [] = tt
     go (scalar ∷ scalars) = (e, go scalars)
 
-pub element_value : (key : List ℕ) (id : ℕ) (name : List ℕ) (attributes : Attributes) (children : List Item) (value : Option AttributeValue) → value ≡ value_of key attributes
+pub element_value : (key : List ℕ) (id : ℕ) (name : List ℕ) (attributes : Attributes) (children : List Item) (value : Option AttributeValue)
+    → value ≡ value_of key attributes
     → HaveOne key value (element id name attributes (items_of children) ∷ [])
 element_value key id name attributes children value e = (e, tt)
 
 -- the first of items that all have one value, which isn't the given one
-pub found_first : (key : List ℕ) (found old : Option AttributeValue) (first rest : List Item) → HaveOne key found first → 0 < length first → same_value found old ≡ false
+pub found_first : (key : List ℕ) (found old : Option AttributeValue) (first rest : List Item) → HaveOne key found first → 0 < length first
+    → same_value found old ≡ false
     → Some found ≡ option_map (λ item. value_of key (attributes_of item)) (first_other key old (first ++ rest))
 found_first key found old [] rest h some e = absurd (omega arith)
 found_first key found old (item ∷ first) rest h some e =
@@ -43,7 +46,8 @@ found_first key found old (item ∷ first) rest h some e =
     ap Some h.0 ∙ sym (ap (λ t. option_map (λ item. value_of key (attributes_of item)) (if not t then Some item else first_other key old (first ++ rest))) test)
 
 -- items that all have the given value are passed over
-pub passed_first : (key : List ℕ) (found old : Option AttributeValue) (first rest : List Item) → HaveOne key found first → same_value found old ≡ true → first_other key old (first ++ rest) ≡ first_other key old rest
+pub passed_first : (key : List ℕ) (found old : Option AttributeValue) (first rest : List Item) → HaveOne key found first → same_value found old ≡ true
+    → first_other key old (first ++ rest) ≡ first_other key old rest
 passed_first key found old [] rest h e = refl
 passed_first key found old (item ∷ first) rest h e =
     let test : same_value (value_of key (attributes_of item)) old ≡ true = ap (λ v. same_value v old) (sym h.0) ∙ e in

@@ -17,10 +17,12 @@ characters_ordered attributes (scalar ∷ scalars) h = (h, characters_ordered at
 pub text_ordered : (text : TextParts) → IsOrdered text.attributes → AreOrdered (items_at (Run text))
 text_ordered text h = characters_ordered text.attributes text.scalars h
 
-pub element_ordered : (head : HeadParts) (children : List Item) → IsOrdered head.attributes → AreOrdered children → AreOrdered (items_at (Element head children))
+pub element_ordered : (head : HeadParts) (children : List Item) → IsOrdered head.attributes → AreOrdered children
+    → AreOrdered (items_at (Element head children))
 element_ordered head children h inside = ((h, children-ordered children inside), tt)
 
 pub next_ordered : (read nodes : List Node) (index : ℕ) (node : Node) → read ≡ nodes → index < length nodes → node ≡ get_or read index node
     → AreOrdered (items_in (take index nodes)) → AreOrdered (items_at node) → AreOrdered (items_in (take (index + 1) nodes))
 next_ordered read nodes index node same less found front here =
-    subst AreOrdered (up_to nodes index node less (found ∙ ap (λ xs. get_or xs index node) same)) (append-ordered (items_in (take index nodes)) (items_at node) front here)
+    subst AreOrdered (up_to nodes index node less (found ∙ ap (λ xs. get_or xs index node) same))
+    (append-ordered (items_in (take index nodes)) (items_at node) front here)

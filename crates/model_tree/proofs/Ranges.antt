@@ -1,5 +1,6 @@
 -- Parts of a list that is put together from lists.
-use Rattle.std.proofs.Common.{◌≡◌, ℕ, zero, suc, ◌<◌, ◌≤◌, ◌+◌, ◌-◌, min, List, [], ◌∷◌, ◌++◌, map, length, take, drop, refl, sym, ap, ◌∙◌, arith, append_assoc, append-nil, length-drop}
+use Rattle.std.proofs.Common.{◌≡◌, ℕ, zero, suc, ◌<◌, ◌≤◌, ◌+◌, ◌-◌, min, List, [], ◌∷◌, ◌++◌, map, length, take, drop, refl, sym, ap, ◌∙◌, arith, append_assoc}
+use Rattle.std.proofs.Common.{append-nil, length-drop}
 use Rattle.std.proofs.lemmas.List.{take_all, drop-append-le}
 use Rattle.std.proofs.Math.Seq.{drop-append-add}
 use Rattle.model_tree.specs.Parts.{TextParts}
@@ -36,7 +37,8 @@ module _ {X : Type 0} where
   taken front first rest whole made skip left n less e m h =
       let long : length (drop skip first) ≡ length first - skip = length-drop skip first in
       ap (λ items. items ++ take (left - n) rest) m ∙ append_assoc front (take n (drop skip first)) (take (left - n) rest)
-      ∙ ap (λ items. front ++ items) (sym (ap (take left) (drop-append-le skip first rest (omega arith)) ∙ take-both (drop skip first) rest left n (e ∙ ap (min left) (sym long)))) ∙ h
+      ∙ ap (λ items. front ++ items)
+      (sym (ap (take left) (drop-append-le skip first rest (omega arith)) ∙ take-both (drop skip first) rest left n (e ∙ ap (min left) (sym long)))) ∙ h
 
   -- no more is to be taken
   pub all_taken : (front items whole : List X) (left : ℕ) → front ++ take left items ≡ whole → left ≡ 0 → front ≡ whole
@@ -63,7 +65,8 @@ module _ {X : Type 0} where
       sym (append-nil front) ∙ ap (λ xs. front ++ xs) (sym none) ∙ h
 
   -- the rest of the first list is passed over whole
-  pub rest_over : (front first rest whole : List X) (skip : ℕ) → length first ≤ skip → front ++ drop skip (first ++ rest) ≡ whole → front ++ drop (skip - length first) rest ≡ whole
+  pub rest_over : (front first rest whole : List X) (skip : ℕ) → length first ≤ skip → front ++ drop skip (first ++ rest) ≡ whole
+      → front ++ drop (skip - length first) rest ≡ whole
   rest_over front first rest whole skip most h =
       let same : length first + (skip - length first) ≡ skip = omega arith in
       ap (λ items. front ++ items) (sym (ap (λ n. drop n (first ++ rest)) (sym same) ∙ drop-append-add first rest (skip - length first))) ∙ h
@@ -77,8 +80,10 @@ module _ {X : Type 0} where
       ∙ ap (λ items. front ++ items) (sym (drop-append-le skip first rest (omega arith))) ∙ h
 
   -- a list put together from the start of one, another one and the rest of the first
-  pub three : (a b c first second third : List X) (offset : ℕ) → a ≡ [] ++ take offset (drop 0 first) → b ≡ a ++ drop 0 second → c ≡ b ++ third → c ≡ take offset first ++ (second ++ third)
-  three a b c first second third offset e f g = g ∙ ap (λ items. items ++ third) (f ∙ ap (λ items. items ++ second) e) ∙ append_assoc (take offset first) second third
+  pub three : (a b c first second third : List X) (offset : ℕ) → a ≡ [] ++ take offset (drop 0 first) → b ≡ a ++ drop 0 second → c ≡ b ++ third
+      → c ≡ take offset first ++ (second ++ third)
+  three a b c first second third offset e f g = g ∙ ap (λ items. items ++ third) (f ∙ ap (λ items. items ++ second) e)
+      ∙ append_assoc (take offset first) second third
 
   -- all of a list of one
   pub whole : (x : X) (offset count : ℕ) → 0 < count → offset + count ≤ 1 → x ∷ [] ≡ take count (drop offset (x ∷ []))
@@ -102,4 +107,5 @@ pub part_of_text : (text part : TextParts) (offset count : ℕ) → part.scalars
     → characters part ≡ take count (drop offset (characters text))
 part_of_text text part offset count s a =
     (λ i. map (λ scalar. character scalar (a i)) (s i))
-    ∙ sym (ap (take count) (drop-map (λ scalar. character scalar text.attributes) offset text.scalars) ∙ take-map (λ scalar. character scalar text.attributes) count (drop offset text.scalars))
+    ∙ sym (ap (take count) (drop-map (λ scalar. character scalar text.attributes) offset text.scalars)
+    ∙ take-map (λ scalar. character scalar text.attributes) count (drop offset text.scalars))

@@ -35,11 +35,13 @@ split_with path offset shells items = option_and_then (λ shell. split_path path
 
 -- the element at a path merged into the one before it; it gives the element without its items. None where there is no such pair
 abbrev pub merged : List ℕ → List Item → Option (List Item × List Item)
-merged path items = if nat_lt 0 (offset_of path) then option_map (λ made. (made.0, made.1.0 ∷ [])) (at (parent_of path) (merge_at (offset_of path)) items) else None
+merged path items = if nat_lt 0 (offset_of path)
+    then option_map (λ made. (made.0, made.1.0 ∷ [])) (at (parent_of path) (merge_at (offset_of path)) items) else None
 
 -- The items with `count` of them, those behind a position, moved to another position; both are read before the move. None where the run
 -- or the target isn't there.
 abbrev pub moved : List ℕ → ℕ → List ℕ → List Item → Option (List Item)
 moved from count to items =
-    option_and_then (λ taken. option_and_then (λ _. changed (at (parent_of (carry_remove from count to)) (put_in (offset_of (carry_remove from count to)) taken.1) taken.0)) (room_at items to))
+    option_and_then (λ taken. option_and_then
+    (λ _. changed (at (parent_of (carry_remove from count to)) (put_in (offset_of (carry_remove from count to)) taken.1) taken.0)) (room_at items to))
     (at (parent_of from) (take_out (offset_of from) count) items)

@@ -12,7 +12,8 @@ pub record TextParts : Type 0 where
 -- a code for what a text is seen as
 abbrev pub coded_text : Coded TextParts
 coded_text =
-    code_by (List ℕ × Attributes) (coded× (coded_list coded_ℕ) coded_attributes) (λ text. (text.scalars, text.attributes)) (λ parts. record { scalars = parts.0; attributes = parts.1 }) (λ _. refl)
+    code_by (List ℕ × Attributes) (coded× (coded_list coded_ℕ) coded_attributes) (λ text. (text.scalars, text.attributes))
+    (λ parts. record { scalars = parts.0; attributes = parts.1 }) (λ _. refl)
 
 -- what an element is, but for its items
 pub record HeadParts : Type 0 where
@@ -23,4 +24,5 @@ pub record HeadParts : Type 0 where
 -- a code for what an element is seen as, its items apart
 abbrev pub coded_head : Coded HeadParts
 coded_head =
-    code_by (ℕ × (List ℕ × Attributes)) (coded× coded_ℕ (coded× (coded_list coded_ℕ) coded_attributes)) (λ head. (head.id, (head.name, head.attributes))) (λ parts. record { id = parts.0; name = parts.1.0; attributes = parts.1.1 }) (λ _. refl)
+    code_by (ℕ × (List ℕ × Attributes)) (coded× coded_ℕ (coded× (coded_list coded_ℕ) coded_attributes))
+    (λ head. (head.id, (head.name, head.attributes))) (λ parts. record { id = parts.0; name = parts.1.0; attributes = parts.1.1 }) (λ _. refl)

@@ -21,7 +21,8 @@ pub(crate) struct Element<'a> {
 impl Element<'_> {
     /// The same element with this name, alone in a list.
     pub(crate) fn renamed(self, name: &Name) -> Result<Items, NoMemory>
-        ensures { let head = self.entry.head.now in IfOk result (λ items. items ≡ element head.id name.now head.attributes (items_of self.entry.children.now) ∷ []) }
+        ensures { let head = self.entry.head.now
+            in IfOk result (λ items. items ≡ element head.id name.now head.attributes (items_of self.entry.children.now) ∷ []) }
     {
         let name = name.copy()?;
         let head = self.head.renamed(name)?;
@@ -120,7 +121,8 @@ impl Items {
         children: Items,
     ) -> Result<Items, NoMemory>
         requires { offset + 1 < 2 ^ 64 }
-        ensures { IfOk result (λ items. items ≡ take offset self.now ++ ((element head.now.id head.now.name head.now.attributes (items_of children) ∷ []) ++ drop (offset + 1) self.now)) }
+        ensures { IfOk result (λ items. items
+            ≡ take offset self.now ++ ((element head.now.id head.now.name head.now.attributes (items_of children) ∷ []) ++ drop (offset + 1) self.now)) }
     {
         let head = head.share()?;
         let new = Items::of_node(self.allocator(), Node::Element(head, children))?;

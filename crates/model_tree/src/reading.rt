@@ -80,7 +80,8 @@ impl Items {
     /// The value of a key that the first item has whose value is another one than the given one: None exactly where each has that value.
     /// It takes no memory.
     pub fn other_value(&self, key: &Name, value: Option<&Value>) -> Option<Option<&Value>>
-        ensures { option_map option_copied result ≡ option_map (λ item. value_of key.now (attributes_of item)) (first_other key.now (option_copied value.entry) self.now) }
+        ensures { option_map option_copied result
+            ≡ option_map (λ item. value_of key.now (attributes_of item)) (first_other key.now (option_copied value.entry) self.now) }
     {
         other_value(self.nodes(), key, value)
     }
@@ -116,7 +117,8 @@ fn other_value<'a>(
     value: Option<&Value>,
 ) -> Option<Option<&'a Value>>
     requires { IsNormal nodes.now.items }
-    ensures { option_map option_copied result ≡ option_map (λ item. value_of key.now (attributes_of item)) (first_other key.now (option_copied value.entry) (items_in nodes.now.items)) }
+    ensures { option_map option_copied result
+        ≡ option_map (λ item. value_of key.now (attributes_of item)) (first_other key.now (option_copied value.entry) (items_in nodes.now.items)) }
 {
     for node in nodes {
         let found = value_in(node, key);

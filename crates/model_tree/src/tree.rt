@@ -1,5 +1,6 @@
 //! The document tree.
-ghost use Rattle.std.specs.Prelude.{◌≡◌, ◌↔◌, ◌+◌, ◌<◌, ◌≤◌, ℕ, length, IsTrue, ◌-◌, ◌^◌, min, [], ◌∷◌, ◌++◌, None, Some, OnOk, OnErr, IfOk, IfErr, IfSome, IsSome, IsErrOf, option_map, option_copied};
+ghost use Rattle.std.specs.Prelude.{◌≡◌, ◌↔◌, ◌+◌, ◌<◌, ◌≤◌, ℕ, length, IsTrue, ◌-◌, ◌^◌, min, [], ◌∷◌, ◌++◌, None, Some, OnOk, OnErr, IfOk, IfErr, IfSome};
+ghost use Rattle.std.specs.Prelude.{IsSome, IsErrOf, option_map, option_copied};
 ghost use Rattle.item_definitions.specs.Item.{count_of, depth_of};
 ghost use Rattle.item_definitions.specs.Children.{at, child_count, item_at};
 ghost use Rattle.operation_definitions.specs.Level.{put_in, take_out, give};

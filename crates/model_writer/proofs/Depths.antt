@@ -1,5 +1,6 @@
 -- How long the path of an item is, and how large its index.
-use Rattle.std.proofs.Common.{◌≡◌, ◌≢◌, ℕ, zero, suc, ◌+◌, ◌<◌, ◌≤◌, ◌^◌, Bool, true, false, nat_eq, nat_lt, nat_le, ◌&&◌, ◌||◌, ◌==◌, List, [], ◌∷◌, ◌++◌, length, Option, Some, None, option_and_then, is_some, slice_get, refl, sym, ap, ◌∙◌, arith}
+use Rattle.std.proofs.Common.{◌≡◌, ◌≢◌, ℕ, zero, suc, ◌+◌, ◌<◌, ◌≤◌, ◌^◌, Bool, true, false, nat_eq, nat_lt, nat_le, ◌&&◌, ◌||◌, ◌==◌, List, [], ◌∷◌, ◌++◌}
+use Rattle.std.proofs.Common.{length, Option, Some, None, option_and_then, is_some, slice_get, refl, sym, ap, ◌∙◌, arith}
 use Rattle.std.specs.Option.{option_map_or}
 use Rattle.std.specs.Cmp.Lexicographic.{pointwise}
 use Rattle.std.proofs.lemmas.Bool.{false≢true}
@@ -25,13 +26,17 @@ one-counted : (item : Item) → 1 ≤ item_count item
 one-counted (character scalar attributes) = omega arith
 one-counted (element id name attributes children) = omega arith
 
-in-list : (xs : List Item) (index : ℕ) (item : Item) → slice_get xs index ≡ Some item → (item_depth item ≤ depth_of xs) × (item_count item ≤ count_of xs) × (index + 1 ≤ count_of xs)
+in-list : (xs : List Item) (index : ℕ) (item : Item) → slice_get xs index ≡ Some item → (item_depth item ≤ depth_of xs)
+    × (item_count item ≤ count_of xs) × (index + 1 ≤ count_of xs)
 in-list [] index item e = absurd cc
-in-list (x ∷ xs) zero item e = (let same : x ≡ item = cc in let d = ap item_depth same in let n = ap item_count same in let o = one-counted item in (omega (arith, d), omega (arith, n), omega (arith, n, o)))
-in-list (x ∷ xs) (suc index) item e = (let rest = in-list xs index item e in let o = one-counted x in (omega (arith, rest.0), omega (arith, rest.1), omega (arith, rest.2, o)))
+in-list (x ∷ xs) zero item e = (let same : x ≡ item = cc in let d = ap item_depth same in let n = ap item_count same in let o = one-counted item
+    in (omega (arith, d), omega (arith, n), omega (arith, n, o)))
+in-list (x ∷ xs) (suc index) item e = (let rest = in-list xs index item e in let o = one-counted x
+    in (omega (arith, rest.0), omega (arith, rest.1), omega (arith, rest.2, o)))
 
 -- an item's path is no longer than the tree is deep, and its index is below the number of items
-pub item-bounds : (path : List ℕ) (xs : List Item) (item : Item) → item_at path xs ≡ Some item → (length path ≤ depth_of xs) × (offset_of path + 1 ≤ count_of xs)
+pub item-bounds : (path : List ℕ) (xs : List Item) (item : Item) → item_at path xs ≡ Some item → (length path ≤ depth_of xs)
+    × (offset_of path + 1 ≤ count_of xs)
 item-bounds [] xs item e = absurd cc
 item-bounds (index ∷ []) xs item e = (let l = in-list xs index item e in let d = one-deep item in (omega (arith, l.0, d), omega (arith, l.2)))
 item-bounds (index ∷ next ∷ path) xs item e =
@@ -87,7 +92,8 @@ and-second true b e = e
 and-second false b e = absurd cc
 
 -- two positions of one parent, of which the first comes before the second
-above-start : (parent : List ℕ) (offset last : ℕ) → not_after (parent ++ offset ∷ []) (parent ++ last ∷ []) ≡ true → pointwise nat_eq (parent ++ offset ∷ []) (parent ++ last ∷ []) ≡ false → 1 ≤ last
+above-start : (parent : List ℕ) (offset last : ℕ) → not_after (parent ++ offset ∷ []) (parent ++ last ∷ []) ≡ true
+    → pointwise nat_eq (parent ++ offset ∷ []) (parent ++ last ∷ []) ≡ false → 1 ≤ last
 above-start parent offset last e other = go last (sym (not_after-parent parent (offset ∷ []) (last ∷ [])) ∙ e) other
   where
     go : (last : ℕ) → not_after (offset ∷ []) (last ∷ []) ≡ true → pointwise nat_eq (parent ++ offset ∷ []) (parent ++ last ∷ []) ≡ false → 1 ≤ last
@@ -104,15 +110,18 @@ above-start parent offset last e other = go last (sym (not_after-parent parent (
         zero-only : (offset : ℕ) → not_after (offset ∷ []) (0 ∷ []) ≡ true → offset ≡ 0
         zero-only offset e = either offset (not_after [] []) (sym (not_after-cons offset 0 [] []) ∙ e)
 
-there-level : (xs : List Item) (parent : List ℕ) (offset : ℕ) → is_there xs (parent ++ offset ∷ []) ≡ true → (level : List Item) × (children_at parent xs ≡ Some level) × (offset ≤ length level)
+there-level : (xs : List Item) (parent : List ℕ) (offset : ℕ) → is_there xs (parent ++ offset ∷ []) ≡ true → (level : List Item)
+    × (children_at parent xs ≡ Some level) × (offset ≤ length level)
 there-level xs parent offset e = go (children_at parent xs) refl (sym (there-at xs parent offset) ∙ e)
   where
-    go : (o : Option (List Item)) → children_at parent xs ≡ o → option_map_or (λ level. nat_le offset (length level)) o false ≡ true → (level : List Item) × (children_at parent xs ≡ Some level) × (offset ≤ length level)
+    go : (o : Option (List Item)) → children_at parent xs ≡ o → option_map_or (λ level. nat_le offset (length level)) o false ≡ true
+        → (level : List Item) × (children_at parent xs ≡ Some level) × (offset ≤ length level)
     go None is e = absurd cc
     go (Some level) is e = (level, is, grind (arith, nat_tests))
 
 -- the end of a range that has items
-pub end_short : (xs : List Item) (start end : List ℕ) → is_range xs start end ≡ true → are_in_one start end ≡ true → same_position start end ≡ false → 0 < length start → 0 < length end → depth_of xs ≤ 64 → length end < 65
+pub end_short : (xs : List Item) (start end : List ℕ) → is_range xs start end ≡ true → are_in_one start end ≡ true → same_position start end ≡ false
+    → 0 < length start → 0 < length end → depth_of xs ≤ 64 → length end < 65
 end_short xs start end range one other some also flat =
     let first = path-joined start (not-empty start some) in
     let last = path-joined end (not-empty end also) in
@@ -122,7 +131,8 @@ end_short xs start end range one other some also flat =
     let order = and-second (is_there xs start && is_there xs end) (not_after start end) range in
     let there = and-second (is_there xs start) (is_there xs end) rest in
     let level = there-level xs (parent_of end) (offset_of end) (ap (is_there xs) (sym last) ∙ there) in
-    let up = above-start (parent_of end) (offset_of start) (offset_of end) (sym (λ i. not_after (begin i) (last i)) ∙ order) (sym (λ i. pointwise nat_eq (begin i) (last i)) ∙ other) in
+    let up = above-start (parent_of end) (offset_of start) (offset_of end) (sym (λ i. not_after (begin i) (last i)) ∙ order)
+    (sym (λ i. pointwise nat_eq (begin i) (last i)) ∙ other) in
     let deep = level-deep (parent_of end) xs level.0 level.1 in
     let full = some-deep level.0 (omega (arith, up, level.2)) in
     let long : length end ≡ length (parent_of end) + 1 = ap length last ∙ length_push (parent_of end) (offset_of end) in

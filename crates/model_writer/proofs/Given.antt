@@ -1,5 +1,6 @@
 -- Values given to flat ranges.
-use Rattle.std.proofs.Common.{◌≡◌, ◌≢◌, ℕ, zero, suc, ◌+◌, ◌<◌, ◌≤◌, ◌^◌, true, nat_lt, ◌||◌, ◌&&◌, ◌==◌, List, [], ◌∷◌, ◌++◌, length, get_or, take, drop, append_assoc, Option, Some, None, unwrap_or, refl, sym, ap, ◌∙◌, arith}
+use Rattle.std.proofs.Common.{◌≡◌, ◌≢◌, ℕ, zero, suc, ◌+◌, ◌<◌, ◌≤◌, ◌^◌, true, nat_lt, ◌||◌, ◌&&◌, ◌==◌, List, [], ◌∷◌, ◌++◌, length, get_or, take, drop}
+use Rattle.std.proofs.Common.{append_assoc, Option, Some, None, unwrap_or, refl, sym, ap, ◌∙◌, arith}
 use Rattle.std.proofs.lemmas.Bool.Decides.{nat_tests}
 use Rattle.std.proofs.lemmas.List.{length-take, length-drop, take_more, append-nil}
 use Rattle.std.proofs.lemmas.List.Concat.{flat_map-append}
@@ -31,7 +32,8 @@ before_behind path some =
     let next : behind path ≡ parent_of path ++ (offset_of path + 1) ∷ [] = ap behind whole ∙ behind-push (parent_of path) (offset_of path) in
     (λ i. not_after (whole i) (next i)) ∙ in_order (parent_of path) (offset_of path) (offset_of path + 1) (omega arith)
 
-pub run_fits : (items level run : List Item) (parent : List ℕ) (start count : ℕ) → run ≡ take count (drop start level) → Some level ≡ children_at parent items → count_of items < 2 ^ 32 → start < 2 ^ 32 → start + length run < 2 ^ 32
+pub run_fits : (items level run : List Item) (parent : List ℕ) (start count : ℕ) → run ≡ take count (drop start level)
+    → Some level ≡ children_at parent items → count_of items < 2 ^ 32 → start < 2 ^ 32 → start + length run < 2 ^ 32
 run_fits items level run parent start count is there few small =
     let a = level_few parent items level (sym there) in
     let b = length-count level in
@@ -40,7 +42,8 @@ run_fits items level run parent start count is there few small =
     let d = length-drop start level in
     omega (arith, a, b, long, c, d)
 
-pub runs_there : (items level run : List Item) (part : Range) (parent key : List ℕ) (new : Option AttributeValue) (start : ℕ) (runs : List Run) → parent ≡ parent_of part.start → start ≡ offset_of part.start
+pub runs_there : (items level run : List Item) (part : Range) (parent key : List ℕ) (new : Option AttributeValue) (start : ℕ) (runs : List Run)
+    → parent ≡ parent_of part.start → start ≡ offset_of part.start
     → Some level ≡ children_at parent items → run ≡ take (count_in part.start part.end) (drop start level) → runs ≡ runs_of key new start run
     → attribute_runs (parent_of part.start) key new runs ≡ give_in items key new part
 runs_there items level run part parent key new start runs above at there is made =
@@ -60,23 +63,32 @@ no-take : {A : Type 0} (count : ℕ) → take {A = A} count [] ≡ []
 no-take zero = refl
 no-take (suc count) = refl
 
-pub runs_nowhere : (items : List Item) (part : Range) (parent key : List ℕ) (new : Option AttributeValue) → parent ≡ parent_of part.start → None ≡ children_at parent items → attribute_runs (parent_of part.start) key new [] ≡ give_in items key new part
+pub runs_nowhere : (items : List Item) (part : Range) (parent key : List ℕ) (new : Option AttributeValue) → parent ≡ parent_of part.start
+    → None ≡ children_at parent items → attribute_runs (parent_of part.start) key new [] ≡ give_in items key new part
 runs_nowhere items part parent key new above nowhere =
-    ap (λ xs. attribute_runs (parent_of part.start) key new (runs_of key new (offset_of part.start) xs)) (sym (ap (take (count_in part.start part.end)) (no-drop (offset_of part.start)) ∙ no-take (count_in part.start part.end)) ∙ ap (λ (o : Option (List Item)). take (count_in part.start part.end) (drop (offset_of part.start) (unwrap_or o []))) (nowhere ∙ ap (λ p. children_at p items) above))
+    ap (λ xs. attribute_runs (parent_of part.start) key new (runs_of key new (offset_of part.start) xs))
+    (sym (ap (take (count_in part.start part.end)) (no-drop (offset_of part.start)) ∙ no-take (count_in part.start part.end))
+    ∙ ap (λ (o : Option (List Item)). take (count_in part.start part.end) (drop (offset_of part.start) (unwrap_or o []))) (nowhere
+    ∙ ap (λ p. children_at p items) above))
 
-runs-push : (parent key : List ℕ) (new : Option AttributeValue) (runs : List Run) (run : Run) → attribute_runs parent key new (runs ++ run ∷ []) ≡ attribute_runs parent key new runs ++ attribute (between (parent ++ run.from ∷ []) (parent ++ run.to ∷ [])) key run.old new ∷ []
+runs-push : (parent key : List ℕ) (new : Option AttributeValue) (runs : List Run) (run : Run) → attribute_runs parent key new (runs ++ run ∷ [])
+    ≡ attribute_runs parent key new runs ++ attribute (between (parent ++ run.from ∷ []) (parent ++ run.to ∷ [])) key run.old new ∷ []
 runs-push parent key new [] run = refl
-runs-push parent key new (first ∷ runs) run = ap (λ xs. attribute (between (parent ++ first.from ∷ []) (parent ++ first.to ∷ [])) key first.old new ∷ xs) (runs-push parent key new runs run)
+runs-push parent key new (first ∷ runs) run = ap (λ xs. attribute (between (parent ++ first.from ∷ []) (parent ++ first.to ∷ [])) key first.old new
+    ∷ xs) (runs-push parent key new runs run)
 
-pub next_run : (parent key : List ℕ) (new : Option AttributeValue) (index : ℕ) (all : List Run) (run : Run) (operation : Operation) (before made after : List Operation) → made ≡ before ++ attribute_runs parent key new (take index all) → index < length all
-    → run ≡ get_or all index run → operation ≡ attribute (between (parent ++ run.from ∷ []) (parent ++ run.to ∷ [])) key run.old new → after ≡ made ++ operation ∷ [] → after ≡ before ++ attribute_runs parent key new (take (index + 1) all)
+pub next_run : (parent key : List ℕ) (new : Option AttributeValue) (index : ℕ) (all : List Run) (run : Run) (operation : Operation)
+    (before made after : List Operation) → made ≡ before ++ attribute_runs parent key new (take index all) → index < length all
+    → run ≡ get_or all index run → operation ≡ attribute (between (parent ++ run.from ∷ []) (parent ++ run.to ∷ [])) key run.old new
+    → after ≡ made ++ operation ∷ [] → after ≡ before ++ attribute_runs parent key new (take (index + 1) all)
 next_run parent key new index all run operation before made after so_far less here meant more =
     let next = take_more all index run less ∙ ap (λ r. take index all ++ r ∷ []) (sym here) in
     more ∙ ap (λ xs. xs ++ operation ∷ []) so_far ∙ append_assoc before (attribute_runs parent key new (take index all)) (operation ∷ [])
     ∙ ap (λ o. before ++ (attribute_runs parent key new (take index all) ++ o ∷ [])) meant
     ∙ ap (λ xs. before ++ xs) (sym (ap (attribute_runs parent key new) next ∙ runs-push parent key new (take index all) run))
 
-pub next_part : (items : List Item) (key : List ℕ) (new : Option AttributeValue) (index : ℕ) (all : List Range) (part : Range) (made after : List Operation) → flat_map (give_in items key new) (take index all) ≡ made → index < length all
+pub next_part : (items : List Item) (key : List ℕ) (new : Option AttributeValue) (index : ℕ) (all : List Range) (part : Range)
+    (made after : List Operation) → flat_map (give_in items key new) (take index all) ≡ made → index < length all
     → part ≡ get_or all index part → after ≡ made ++ give_in items key new part → flat_map (give_in items key new) (take (index + 1) all) ≡ after
 next_part items key new index all part made after so_far less here more =
     let next = take_more all index part less ∙ ap (λ r. take index all ++ r ∷ []) (sym here) in

@@ -3,11 +3,13 @@ use Rattle.std.proofs.Common.{◌≡◌, ◌≢◌, ℕ, ◌-◌, ◌^◌, min, 
 use Rattle.ck_base.specs.declared.faults.EditFault.{EditFault}
 use Rattle.ck_base.specs.declared.faults.EditFault.TheVariants.{BadRange, NoMemory}
 use Rattle.item_definitions.specs.Position.{between}
-use Rattle.operation_definitions.specs.Operation.{Operation, Fault, no_place, not_flat, into_itself, old_differs, not_neighbours, cell_state, too_large, too_deep}
+use Rattle.operation_definitions.specs.Operation.{Operation, Fault, no_place, not_flat, into_itself, old_differs, not_neighbours, cell_state, too_large}
+use Rattle.operation_definitions.specs.Operation.{too_deep}
 use Rattle.document_definitions.specs.Selection.{selected}
 use Rattle.document_definitions.specs.Document.{State, with_selection, all_applied}
 use Rattle.edit_definitions.specs.declared.edit.Edit.{Edit}
-use Rattle.edit_definitions.specs.declared.edit.Edit.TheVariants.{InsertText, InsertElement, Remove, Move, SetAttribute, RemoveAttribute, Rename, Split, Merge, Wrap, Unwrap, AddMarker, UpdateMarker, RemoveMarker, Select, SelectionAttribute, InsertItems}
+use Rattle.edit_definitions.specs.declared.edit.Edit.TheVariants.{InsertText, InsertElement, Remove, Move, SetAttribute, RemoveAttribute, Rename, Split, Merge}
+use Rattle.edit_definitions.specs.declared.edit.Edit.TheVariants.{Wrap, Unwrap, AddMarker, UpdateMarker, RemoveMarker, Select, SelectionAttribute, InsertItems}
 use Rattle.document_definitions.specs.Sound.{IsSound}
 use Rattle.edit_definitions.specs.Applied.{AreApplied}
 use Rattle.edit_definitions.proofs.Planning.{planned_apply}
@@ -43,7 +45,8 @@ plain (InsertItems at items) state h = refl
 abbrev after : ℕ → Edit → State → List Operation → Result State EditFault
 after number edit state operations = as_step number (all_applied operations state) >>= (λ made. Ok (selecting edit made))
 
-pub plain_made : (registered : List ℕ → Bool) (number : ℕ) (edit : Edit) (state new : State) (operations : List Operation) → IsPlain edit → operations_of registered number edit state ≡ Ok operations → all_applied operations state ≡ Ok new
+pub plain_made : (registered : List ℕ → Bool) (number : ℕ) (edit : Edit) (state new : State) (operations : List Operation) → IsPlain edit
+    → operations_of registered number edit state ≡ Ok operations → all_applied operations state ≡ Ok new
     → performed registered number edit state ≡ Ok new
 plain_made registered number edit state new operations h planned made =
     ap (λ (r : Result (List Operation) EditFault). r >>= after number edit state) planned
@@ -61,29 +64,36 @@ limited number (Err (cell_state cell)) fault e = (let same : op.CellState cell �
 limited number (Err (too_large count)) fault e = (let same : op.TooLarge (min count (2 ^ 64 - 1)) ≡ fault = cc in ap (λ f. Err (limit_of number f)) same)
 limited number (Err (too_deep depth)) fault e = (let same : op.TooDeep (min depth (2 ^ 32 - 1)) ≡ fault = cc in ap (λ f. Err (limit_of number f)) same)
 
-pub limit_refused : (registered : List ℕ → Bool) (number : ℕ) (edit : Edit) (state : State) (operations : List Operation) (fault : OpFault) → operations_of registered number edit state ≡ Ok operations
-    → (fault ≢ op.NoMemory → refusal (all_applied operations state) ≡ Some fault) → limit_of number fault ≢ NoMemory → performed registered number edit state ≡ Err (limit_of number fault)
+pub limit_refused : (registered : List ℕ → Bool) (number : ℕ) (edit : Edit) (state : State) (operations : List Operation) (fault : OpFault)
+    → operations_of registered number edit state ≡ Ok operations
+    → (fault ≢ op.NoMemory → refusal (all_applied operations state) ≡ Some fault) → limit_of number fault ≢ NoMemory
+    → performed registered number edit state ≡ Err (limit_of number fault)
 limit_refused registered number edit state operations fault planned refused some =
     let told : fault ≢ op.NoMemory = λ e. some (ap (limit_of number) e) in
     ap (λ (r : Result (List Operation) EditFault). r >>= after number edit state) planned
     ∙ ap (λ (r : Result State EditFault). r >>= (λ made. Ok (selecting edit made))) (limited number (all_applied operations state) fault (refused told))
 
-pub plan_refused : (registered : List ℕ → Bool) (number : ℕ) (edit : Edit) (state : State) (fault : EditFault) → operations_of registered number edit state ≡ Err fault → performed registered number edit state ≡ Err fault
+pub plan_refused : (registered : List ℕ → Bool) (number : ℕ) (edit : Edit) (state : State) (fault : EditFault)
+    → operations_of registered number edit state ≡ Err fault → performed registered number edit state ≡ Err fault
 plan_refused registered number edit state fault refused = ap (λ (r : Result (List Operation) EditFault). r >>= after number edit state) refused
 
 -- a selection
-pub selected_made : (registered : List ℕ → Bool) (number : ℕ) (start end : List ℕ) (backward : Bool) (state : State) → is_range state.document.items start end ≡ true
+pub selected_made : (registered : List ℕ → Bool) (number : ℕ) (start end : List ℕ) (backward : Bool) (state : State)
+    → is_range state.document.items start end ≡ true
     → performed registered number (Select start end backward) state ≡ Ok (with_selection (selected (between start end) backward) state)
 selected_made registered number start end backward state there =
     ap (λ t. (check t (BadRange number start end) >>= (λ _. Ok [])) >>= after number (Select start end backward) state) there
 
-pub selected_planned : (registered : List ℕ → Bool) (number : ℕ) (start end : List ℕ) (backward : Bool) (state : State) (operations : List Operation) → is_range state.document.items start end ≡ true
+pub selected_planned : (registered : List ℕ → Bool) (number : ℕ) (start end : List ℕ) (backward : Bool) (state : State) (operations : List Operation)
+    → is_range state.document.items start end ≡ true
     → operations_of registered number (Select start end backward) state ≡ Ok operations → operations ≡ []
 selected_planned registered number start end backward state operations there planned =
-    let e : ◌≡◌ {A = Result (List Operation) EditFault} (Ok []) (Ok operations) = sym (ap (λ t. check t (BadRange number start end) >>= (λ _. Ok [])) there) ∙ planned in
+    let e : ◌≡◌ {A = Result (List Operation) EditFault} (Ok []) (Ok operations) =
+    sym (ap (λ t. check t (BadRange number start end) >>= (λ _. Ok [])) there) ∙ planned in
     cc
 
-pub not_selected : (registered : List ℕ → Bool) (number : ℕ) (start end : List ℕ) (backward : Bool) (state : State) → is_range state.document.items start end ≡ false
+pub not_selected : (registered : List ℕ → Bool) (number : ℕ) (start end : List ℕ) (backward : Bool) (state : State)
+    → is_range state.document.items start end ≡ false
     → performed registered number (Select start end backward) state ≡ Err (BadRange number start end)
 not_selected registered number start end backward state gone =
     ap (λ t. (check t (BadRange number start end) >>= (λ _. Ok [])) >>= after number (Select start end backward) state) gone
@@ -100,11 +110,14 @@ limit-only (Err (cell_state cell)) fault applied e = absurd applied
 limit-only (Err (too_large count)) fault applied e = (let same : op.TooLarge (min count (2 ^ 64 - 1)) ≡ fault = cc in subst IsLimit same tt)
 limit-only (Err (too_deep depth)) fault applied e = (let same : op.TooDeep (min depth (2 ^ 32 - 1)) ≡ fault = cc in subst IsLimit same tt)
 
-pub limit_alone : (registered : List ℕ → Bool) (number : ℕ) (edit : Edit) (state : State) (operations : List Operation) (fault : OpFault) → IsSound state → operations_of registered number edit state ≡ Ok operations
+pub limit_alone : (registered : List ℕ → Bool) (number : ℕ) (edit : Edit) (state : State) (operations : List Operation) (fault : OpFault)
+    → IsSound state → operations_of registered number edit state ≡ Ok operations
     → (fault ≢ op.NoMemory → refusal (all_applied operations state) ≡ Some fault) → IsLimit fault
-limit_alone registered number edit state operations fault sound planned refused = go fault refused (λ told. limit-only (all_applied operations state) fault (planned_apply registered number edit state operations sound planned) told)
+limit_alone registered number edit state operations fault sound planned refused =
+    go fault refused (λ told. limit-only (all_applied operations state) fault (planned_apply registered number edit state operations sound planned) told)
   where
-    go : (fault : OpFault) → (fault ≢ op.NoMemory → refusal (all_applied operations state) ≡ Some fault) → (refusal (all_applied operations state) ≡ Some fault → IsLimit fault) → IsLimit fault
+    go : (fault : OpFault) → (fault ≢ op.NoMemory → refusal (all_applied operations state) ≡ Some fault)
+        → (refusal (all_applied operations state) ≡ Some fault → IsLimit fault) → IsLimit fault
     go op.NoMemory refused told = tt
     go (op.TooLarge count) refused told = tt
     go (op.TooDeep depth) refused told = tt

@@ -8,15 +8,18 @@ use Rattle.model_tree.specs.Parts.{HeadParts}
 use Rattle.model_tree.specs.Reading.{shown_character, shown_element, shown_of}
 use Rattle.edit_definitions.specs.Planned.{name_of, renaming}
 
-pub name_there : (items : List Item) (path : List ℕ) (head : HeadParts) (count : ℕ) → Some (shown_element head count) ≡ option_map shown_of (item_at path items) → option_and_then name_of (item_at path items) ≡ Some head.name
+pub name_there : (items : List Item) (path : List ℕ) (head : HeadParts) (count : ℕ) → Some (shown_element head count)
+    ≡ option_map shown_of (item_at path items) → option_and_then name_of (item_at path items) ≡ Some head.name
 name_there items path head count e = go (item_at path items) e
   where
     go : (o : Option Item) → Some (shown_element head count) ≡ option_map shown_of o → option_and_then name_of o ≡ Some head.name
     go None e = absurd cc
     go (Some (character scalar attributes)) e = absurd cc
-    go (Some (element id name attributes children)) e = (let same : head ≡ record { id = id; name = name; attributes = attributes } = cc in ap (λ (h : HeadParts). Some h.name) (sym same))
+    go (Some (element id name attributes children)) e = (let same : head ≡ record { id = id; name = name; attributes = attributes } = cc
+        in ap (λ (h : HeadParts). Some h.name) (sym same))
 
-pub name_character : (items : List Item) (path : List ℕ) (scalar : ℕ) (attributes : Attributes) → Some (shown_character scalar attributes) ≡ option_map shown_of (item_at path items) → option_and_then name_of (item_at path items) ≡ None
+pub name_character : (items : List Item) (path : List ℕ) (scalar : ℕ) (attributes : Attributes) → Some (shown_character scalar attributes)
+    ≡ option_map shown_of (item_at path items) → option_and_then name_of (item_at path items) ≡ None
 name_character items path scalar attributes e = go (item_at path items) e
   where
     go : (o : Option Item) → Some (shown_character scalar attributes) ≡ option_map shown_of o → option_and_then name_of o ≡ None

@@ -18,13 +18,15 @@ scalars-push (x ∷ xs) c h all = both (scalar x) (all_scalars xs) all (scalars-
     both true b e rest = rest e
     both false b e rest = absurd cc
 
-pub next_bytes : (all : List ℕ) (index scalar : ℕ) (old new : List ℕ) → index < length all → scalar ≡ get_or all index scalar → old ≡ encode_utf8_all (take index all) → new ≡ old ++ encode_utf8 scalar
+pub next_bytes : (all : List ℕ) (index scalar : ℕ) (old new : List ℕ) → index < length all → scalar ≡ get_or all index scalar
+    → old ≡ encode_utf8_all (take index all) → new ≡ old ++ encode_utf8 scalar
     → new ≡ encode_utf8_all (take (index + 1) all)
 next_bytes all index scalar old new less here before after =
     after ∙ ap (λ ys. ys ++ encode_utf8 scalar) before ∙ sym (encodes-push (take index all) scalar)
     ∙ ap encode_utf8_all (ap (λ c. take index all ++ c ∷ []) here ∙ sym (take_more all index scalar less))
 
-pub next_scalar : (all : List ℕ) (index c : ℕ) → index < length all → c ≡ get_or all index c → all_scalars (c ∷ []) ≡ true → all_scalars (take index all) ≡ true → all_scalars (take (index + 1) all) ≡ true
+pub next_scalar : (all : List ℕ) (index c : ℕ) → index < length all → c ≡ get_or all index c → all_scalars (c ∷ []) ≡ true
+    → all_scalars (take index all) ≡ true → all_scalars (take (index + 1) all) ≡ true
 next_scalar all index c less here one before =
     ap all_scalars (take_more all index c less ∙ ap (λ d. take index all ++ d ∷ []) (sym here)) ∙ scalars-push (take index all) c one before
 

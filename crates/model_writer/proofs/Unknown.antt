@@ -1,5 +1,6 @@
 -- The first name of items that is unknown.
-use Rattle.std.proofs.Common.{◌≡◌, ℕ, ◌+◌, ◌<◌, ◌≤◌, Bool, true, false, not, List, [], ◌∷◌, ◌++◌, map, drop, length, get_or, find, Option, Some, None, option_and_then, if◌then◌else◌, refl, sym, ap, ◌∙◌}
+use Rattle.std.proofs.Common.{◌≡◌, ℕ, ◌+◌, ◌<◌, ◌≤◌, Bool, true, false, not, List, [], ◌∷◌, ◌++◌, map, drop, length, get_or, find, Option, Some, None}
+use Rattle.std.proofs.Common.{option_and_then, if◌then◌else◌, refl, sym, ap, ◌∙◌}
 use Rattle.std.proofs.lemmas.List.{drop_more, drop_all}
 use Rattle.std.specs.Option.{option_or}
 use Rattle.std.specs.List.{flat_map, enumerate_from}
@@ -26,7 +27,8 @@ module _ (registered : List ℕ → Bool) where
   pick-cons path (character scalar attributes) entries = refl
   pick-cons path (element id name attributes children) entries = go (not (is_known registered name))
     where
-      go : (t : Bool) → option_and_then (λ (entry : List ℕ × Item). name_of entry.1) (if t then Some (path, element id name attributes children) else find (λ (entry : List ℕ × Item). is_unknown registered (name_of entry.1)) entries)
+      go : (t : Bool) → option_and_then (λ (entry : List ℕ × Item). name_of entry.1) (if t then Some (path, element id name attributes children)
+          else find (λ (entry : List ℕ × Item). is_unknown registered (name_of entry.1)) entries)
           ≡ option_or (if t then Some name else None) (pick entries)
       go true = refl
       go false = refl
@@ -59,12 +61,14 @@ module _ (registered : List ℕ → Bool) where
     walked-item : (path : List ℕ) (item : Item) → pick (walk_item path item) ≡ first_item item
     walked-item path (character scalar attributes) = refl
     walked-item path (element id name attributes children) =
-        pick-cons path (element id name attributes children) (walk_inner path 0 children) ∙ ap (option_or (own (element id name attributes children))) (walked-inner path 0 children)
+        pick-cons path (element id name attributes children) (walk_inner path 0 children)
+        ∙ ap (option_or (own (element id name attributes children))) (walked-inner path 0 children)
 
     walked-inner : (path : List ℕ) (index : ℕ) (items : Items) → pick (walk_inner path index items) ≡ first_inner items
     walked-inner path index none = refl
     walked-inner path index (more item items) =
-        pick-append (walk_item (path ++ index ∷ []) item) (walk_inner path (index + 1) items) ∙ (λ i. option_or (walked-item (path ++ index ∷ []) item i) (walked-inner path (index + 1) items i))
+        pick-append (walk_item (path ++ index ∷ []) item) (walk_inner path (index + 1) items)
+        ∙ (λ i. option_or (walked-item (path ++ index ∷ []) item i) (walked-inner path (index + 1) items i))
 
   walked : (index : ℕ) (items : List Item) → pick (flat_map (λ entry. walk_item (entry.0 ∷ []) entry.1) (enumerate_from index items)) ≡ first_in items
   walked index [] = refl
@@ -77,7 +81,8 @@ module _ (registered : List ℕ → Bool) where
 
   first-append : (front back : List Item) → first_in (front ++ back) ≡ option_or (first_in front) (first_in back)
   first-append [] back = refl
-  first-append (item ∷ front) back = ap (option_or (first_item item)) (first-append front back) ∙ sym (or-assoc (first_item item) (first_in front) (first_in back))
+  first-append (item ∷ front) back = ap (option_or (first_item item)) (first-append front back)
+      ∙ sym (or-assoc (first_item item) (first_in front) (first_in back))
 
   unknown-append : (front back : List Item) → unknown_in registered (front ++ back) ≡ option_or (unknown_in registered front) (unknown_in registered back)
   unknown-append front back = unknown-first (front ++ back) ∙ first-append front back ∙ sym (λ i. option_or (unknown-first front i) (unknown-first back i))
@@ -98,32 +103,39 @@ module _ (registered : List ℕ → Bool) where
   or-none (Some x) = refl
 
   element-first : (id : ℕ) (name : List ℕ) (attributes : Attributes) (children : List Item)
-      → unknown_in registered (element id name attributes (items_of children) ∷ []) ≡ option_or (if not (is_known registered name) then Some name else None) (unknown_in registered children)
+      → unknown_in registered (element id name attributes (items_of children) ∷ [])
+      ≡ option_or (if not (is_known registered name) then Some name else None) (unknown_in registered children)
   element-first id name attributes children =
-      unknown-first (element id name attributes (items_of children) ∷ []) ∙ or-none (option_or (if not (is_known registered name) then Some name else None) (first_inner (items_of children)))
+      unknown-first (element id name attributes (items_of children) ∷ [])
+      ∙ or-none (option_or (if not (is_known registered name) then Some name else None) (first_inner (items_of children)))
       ∙ ap (option_or (if not (is_known registered name) then Some name else None)) (inner-first children ∙ sym (unknown-first children))
 
-  pub unknown_element : (node : Node) (head : HeadParts) (children : List Item) → node ≡ Element head children → is_known registered head.name ≡ false → unknown_in registered (items_at node) ≡ Some head.name
+  pub unknown_element : (node : Node) (head : HeadParts) (children : List Item) → node ≡ Element head children → is_known registered head.name ≡ false
+      → unknown_in registered (items_at node) ≡ Some head.name
   unknown_element node head children is e =
       ap (λ n. unknown_in registered (items_at n)) is ∙ element-first head.id head.name head.attributes children
       ∙ ap (λ t. option_or (if not t then Some head.name else None) (unknown_in registered children)) e
 
-  pub known_element : (node : Node) (head : HeadParts) (children among : List Item) → node ≡ Element head children → is_known registered head.name ≡ true → among ≡ children
+  pub known_element : (node : Node) (head : HeadParts) (children among : List Item) → node ≡ Element head children → is_known registered head.name
+      ≡ true → among ≡ children
       → unknown_in registered (items_at node) ≡ unknown_in registered among
   known_element node head children among is e same =
       ap (λ n. unknown_in registered (items_at n)) is ∙ element-first head.id head.name head.attributes children
       ∙ ap (λ t. option_or (if not t then Some head.name else None) (unknown_in registered children)) e ∙ ap (unknown_in registered) (sym same)
 
-  at-index : (nodes : List Node) (index : ℕ) (node : Node) → index < length nodes → node ≡ get_or nodes index node → items_in (drop index nodes) ≡ items_at node ++ items_in (drop (index + 1) nodes)
+  at-index : (nodes : List Node) (index : ℕ) (node : Node) → index < length nodes → node ≡ get_or nodes index node → items_in (drop index nodes)
+      ≡ items_at node ++ items_in (drop (index + 1) nodes)
   at-index nodes index node less here = ap items_in (drop_more nodes index node less ∙ ap (λ n. n ∷ drop (index + 1) nodes) (sym here))
 
-  pub found_first : (nodes : List Node) (index : ℕ) (node : Node) (name : List ℕ) → index < length nodes → node ≡ get_or nodes index node → Some name ≡ unknown_in registered (items_at node)
+  pub found_first : (nodes : List Node) (index : ℕ) (node : Node) (name : List ℕ) → index < length nodes → node ≡ get_or nodes index node
+      → Some name ≡ unknown_in registered (items_at node)
       → Some name ≡ unknown_in registered (items_in (drop index nodes))
   found_first nodes index node name less here found =
       sym (ap (unknown_in registered) (at-index nodes index node less here) ∙ unknown-append (items_at node) (items_in (drop (index + 1) nodes))
       ∙ ap (λ o. option_or o (unknown_in registered (items_in (drop (index + 1) nodes)))) (sym found))
 
-  pub passed_over : (nodes : List Node) (index : ℕ) (node : Node) → index < length nodes → node ≡ get_or nodes index node → None ≡ unknown_in registered (items_at node)
+  pub passed_over : (nodes : List Node) (index : ℕ) (node : Node) → index < length nodes → node ≡ get_or nodes index node
+      → None ≡ unknown_in registered (items_at node)
       → unknown_in registered (items_in (drop index nodes)) ≡ unknown_in registered (items_in (drop (index + 1) nodes))
   passed_over nodes index node less here nothing =
       ap (unknown_in registered) (at-index nodes index node less here) ∙ unknown-append (items_at node) (items_in (drop (index + 1) nodes))

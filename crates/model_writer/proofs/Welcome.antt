@@ -1,5 +1,7 @@
 -- What an edit plans on a sound document brings new ids alone, and ranges of markers that are in the tree.
-use Rattle.std.proofs.Common.{◌≡◌, ◌≢◌, ℕ, ◌+◌, ◌<◌, ◌≤◌, ◌^◌, Bool, true, false, not, nat_eq, nat_le, nat_lt, ◌&&◌, ◌||◌, ◌==◌, if◌then◌else◌, List, [], ◌∷◌, ◌++◌, map, length, reverse, Option, Some, None, ok_or, option_and_then, unwrap_or, is_none, IsSomeAnd, Result, Ok, Err, All, refl, sym, subst, arith}
+use Rattle.std.proofs.Common.{◌≡◌, ◌≢◌, ℕ, ◌+◌, ◌<◌, ◌≤◌, ◌^◌, Bool, true, false, not, nat_eq, nat_le, nat_lt, ◌&&◌, ◌||◌, ◌==◌, if◌then◌else◌, List, [], ◌∷◌}
+use Rattle.std.proofs.Common.{◌++◌, map, length, reverse, Option, Some, None, ok_or, option_and_then, unwrap_or, is_none, IsSomeAnd, Result, Ok, Err, All, refl}
+use Rattle.std.proofs.Common.{sym, subst, arith}
 use Rattle.std.specs.Option.{option_map_or}
 use Rattle.std.specs.List.{flat_map, IsDistinct, range_with_len}
 use Rattle.std.proofs.lemmas.Bool.Decides.{nat_tests}
@@ -19,10 +21,12 @@ use Rattle.document_definitions.specs.Document.{State, ids_of}
 use Rattle.document_definitions.specs.Sound.{IsSound, ids_in, IsWelcome}
 use Rattle.document_definitions.proofs.Soundness.{keeps_soundness}
 use Rattle.edit_definitions.specs.declared.edit.Edit.{Edit}
-use Rattle.edit_definitions.specs.declared.edit.Edit.TheVariants.{InsertText, InsertElement, Remove, Move, SetAttribute, RemoveAttribute, Rename, Split, Merge, Wrap, Unwrap, AddMarker, UpdateMarker, RemoveMarker, Select, SelectionAttribute, InsertItems}
+use Rattle.edit_definitions.specs.declared.edit.Edit.TheVariants.{InsertText, InsertElement, Remove, Move, SetAttribute, RemoveAttribute, Rename, Split, Merge}
+use Rattle.edit_definitions.specs.declared.edit.Edit.TheVariants.{Wrap, Unwrap, AddMarker, UpdateMarker, RemoveMarker, Select, SelectionAttribute, InsertItems}
 use Rattle.edit_definitions.specs.declared.edit.Target.{Target}
 use Rattle.edit_definitions.specs.Places.{is_there, is_range, are_in_one, is_element, is_between, is_known}
-use Rattle.edit_definitions.specs.Planned.{◌>>=◌, check, ids_left, count_in, insertion, empty_element, removals, moved_run, parts_of, given_to, name_of, renaming, unknown_in, known_names, marker_of, operations_of}
+use Rattle.edit_definitions.specs.Planned.{◌>>=◌, check, ids_left, count_in, insertion, empty_element, removals, moved_run, parts_of, given_to, name_of}
+use Rattle.edit_definitions.specs.Planned.{renaming, unknown_in, known_names, marker_of, operations_of}
 use Rattle.edit_definitions.specs.Runs.{Run, runs_of, items_of_range, attribute_runs, give_in, with_ids}
 use Rattle.model_doc.specs.Conditions.{AreWelcome}
 use Rattle.model_doc.proofs.NextIds.{ids-characters}
@@ -77,35 +81,44 @@ all-quiet (operation ∷ operations) state sound quiet =
     (welcome, λ made e. all-quiet operations made (keeps_soundness operation state made sound (quiet-places operation quiet.0) welcome e) quiet.1)
 
 -- a first operation that may bring something, and then others that bring nothing
-then-quiet : (operation : Operation) (operations : List Operation) (state : State) → IsSound state → HasPlaces operation → IsWelcome operation state → AllQuiet operations → AreWelcome (operation ∷ operations) state
-then-quiet operation operations state sound places welcome quiet = (welcome, λ made e. all-quiet operations made (keeps_soundness operation state made sound places welcome e) quiet)
+then-quiet : (operation : Operation) (operations : List Operation) (state : State) → IsSound state → HasPlaces operation → IsWelcome operation state
+    → AllQuiet operations → AreWelcome (operation ∷ operations) state
+then-quiet operation operations state sound places welcome quiet =
+    (welcome, λ made e. all-quiet operations made (keeps_soundness operation state made sound places welcome e) quiet)
 
 -- items that come in with new ids
-insert-welcome : (at : List ℕ) (items : List Item) (count : ℕ) (state : State) → IsSound state → ids_of items ≡ range_with_len state.document.next_id count → state.document.next_id + count ≤ 2 ^ 63 → IsWelcome (insert at items) state
+insert-welcome : (at : List ℕ) (items : List Item) (count : ℕ) (state : State) → IsSound state
+    → ids_of items ≡ range_with_len state.document.next_id count → state.document.next_id + count ≤ 2 ^ 63 → IsWelcome (insert at items) state
 insert-welcome at items count state sound ids left = record {
-  fresh = subst (λ xs. IsDistinct nat_eq (xs ++ ids_in state.document.items state.cells)) (sym ids) (distinct-from state.document.next_id count (ids_in state.document.items state.cells) sound.drawn sound.distinct);
+  fresh = subst (λ xs. IsDistinct nat_eq (xs ++ ids_in state.document.items state.cells)) (sym ids)
+      (distinct-from state.document.next_id count (ids_in state.document.items state.cells) sound.drawn sound.distinct);
   known = subst (λ xs. All (λ id. (1 ≤ id) × (id < 2 ^ 63)) xs) (sym ids) (known-from state.document.next_id count sound.some left);
   ranged = tt;
 }
 
-insertion-welcome : (at : List ℕ) (items : List Item) (count : ℕ) (state : State) → IsSound state → ids_of items ≡ range_with_len state.document.next_id count → state.document.next_id + count ≤ 2 ^ 63 → AreWelcome (insertion at items) state
+insertion-welcome : (at : List ℕ) (items : List Item) (count : ℕ) (state : State) → IsSound state
+    → ids_of items ≡ range_with_len state.document.next_id count → state.document.next_id + count ≤ 2 ^ 63 → AreWelcome (insertion at items) state
 insertion-welcome at [] count state sound ids left = tt
-insertion-welcome at (item ∷ items) count state sound ids left = then-quiet (insert at (item ∷ items)) [] state sound tt (insert-welcome at (item ∷ items) count state sound ids left) tt
+insertion-welcome at (item ∷ items) count state sound ids left = then-quiet (insert at (item ∷ items)) [] state sound tt
+    (insert-welcome at (item ∷ items) count state sound ids left) tt
 
 -- what is planned, where an edit can be made
 abbrev Welcome : State → Result (List Operation) EditFault → Type 0
 Welcome state (Ok operations) = AreWelcome operations state
 Welcome state (Err fault) = Unit {0}
 
-after-check : (state : State) (b : Bool) (fault : EditFault) (next : Unit {0} → Result (List Operation) EditFault) → (b ≡ true → Welcome state (next tt)) → Welcome state (check b fault >>= next)
+after-check : (state : State) (b : Bool) (fault : EditFault) (next : Unit {0} → Result (List Operation) EditFault)
+    → (b ≡ true → Welcome state (next tt)) → Welcome state (check b fault >>= next)
 after-check state true fault next h = h refl
 after-check state false fault next h = tt
 
-after-some : {A : Type 0} (state : State) (o : Option A) (fault : EditFault) (next : A → Result (List Operation) EditFault) → ((a : A) → o ≡ Some a → Welcome state (next a)) → Welcome state (ok_or o fault >>= next)
+after-some : {A : Type 0} (state : State) (o : Option A) (fault : EditFault) (next : A → Result (List Operation) EditFault)
+    → ((a : A) → o ≡ Some a → Welcome state (next a)) → Welcome state (ok_or o fault >>= next)
 after-some state None fault next h = tt
 after-some state (Some a) fault next h = h a refl
 
-after-all : {A : Type 0} (state : State) (r : Result A EditFault) (next : A → Result (List Operation) EditFault) → ((a : A) → Welcome state (next a)) → Welcome state (r >>= next)
+after-all : {A : Type 0} (state : State) (r : Result A EditFault) (next : A → Result (List Operation) EditFault) → ((a : A) → Welcome state (next a))
+    → Welcome state (r >>= next)
 after-all state (Ok a) next h = h a
 after-all state (Err fault) next h = tt
 
@@ -121,7 +134,8 @@ there-place : (items : List Item) (position : List ℕ) → is_there items posit
 there-place items [] e = absurd cc
 there-place items (number ∷ path) e = ((λ same. cc), go (child_count items (parent_of (number ∷ path))) e)
   where
-    go : (o : Option ℕ) → option_map_or (λ count. nat_le (offset_of (number ∷ path)) count) o false ≡ true → IsSomeAnd o (λ count. offset_of (number ∷ path) ≤ count)
+    go : (o : Option ℕ) → option_map_or (λ count. nat_le (offset_of (number ∷ path)) count) o false ≡ true
+        → IsSomeAnd o (λ count. offset_of (number ∷ path) ≤ count)
     go None e = absurd cc
     go (Some count) e = grind (arith, nat_tests)
 
@@ -158,7 +172,8 @@ if-quiet : (t : Bool) (operation : Operation) → IsQuiet operation → AllQuiet
 if-quiet true operation quiet = tt
 if-quiet false operation quiet = (quiet, tt)
 
-text-welcome : (at text : List ℕ) (attributes : Attributes) (state : State) → IsSound state → AreWelcome (insertion at (map (λ scalar. character scalar attributes) text)) state
+text-welcome : (at text : List ℕ) (attributes : Attributes) (state : State) → IsSound state
+    → AreWelcome (insertion at (map (λ scalar. character scalar attributes) text)) state
 text-welcome at text attributes state sound = go (map (λ scalar. character scalar attributes) text) (ids-characters attributes text)
   where
     go : (items : List Item) → ids_of items ≡ [] → AreWelcome (insertion at items) state
@@ -178,17 +193,22 @@ element-some : (items : List Item) (path : List ℕ) → is_element items path �
 element-some items [] e = absurd cc
 element-some items (index ∷ path) e = λ same. cc
 
-marker-welcome : (name : List ℕ) (old : Option Range) (start end : List ℕ) (state : State) → IsSound state → is_range state.document.items start end ≡ true → AreWelcome (marker name old (Some (between start end)) ∷ []) state
+marker-welcome : (name : List ℕ) (old : Option Range) (start end : List ℕ) (state : State) → IsSound state → is_range state.document.items start end
+    ≡ true → AreWelcome (marker name old (Some (between start end)) ∷ []) state
 marker-welcome name old start end state sound e =
-    then-quiet (marker name old (Some (between start end))) [] state sound tt (record { fresh = sound.distinct; known = no-ids; ranged = range_there state.document.items start end e }) tt
+    then-quiet (marker name old (Some (between start end))) [] state sound tt
+    (record { fresh = sound.distinct; known = no-ids; ranged = range_there state.document.items start end e }) tt
 
-given-welcome : (edit : ℕ) (target : Target) (key : List ℕ) (new : Option AttributeValue) (state : State) → IsSound state → Welcome state (given_to edit state.document.items target key new)
+given-welcome : (edit : ℕ) (target : Target) (key : List ℕ) (new : Option AttributeValue) (state : State) → IsSound state
+    → Welcome state (given_to edit state.document.items target key new)
 given-welcome edit target key new state sound =
-    after-all state (parts_of edit state.document.items target) (λ parts. Ok (flat_map (give_in state.document.items key new) parts)) (λ parts. all-quiet (flat_map (give_in state.document.items key new) parts) state sound (given-quiet state.document.items key new parts))
+    after-all state (parts_of edit state.document.items target) (λ parts. Ok (flat_map (give_in state.document.items key new) parts))
+    (λ parts. all-quiet (flat_map (give_in state.document.items key new) parts) state sound (given-quiet state.document.items key new parts))
 
 planned : (registered : List ℕ → Bool) (number : ℕ) (edit : Edit) (state : State) → IsSound state → Welcome state (operations_of registered number edit state)
 planned registered number (InsertText at text attributes) state sound =
-    after-check state (is_there state.document.items at) (BadPosition number at) (λ _. Ok (insertion at (map (λ scalar. character scalar attributes) text))) (λ _. text-welcome at text attributes state sound)
+    after-check state (is_there state.document.items at) (BadPosition number at)
+    (λ _. Ok (insertion at (map (λ scalar. character scalar attributes) text))) (λ _. text-welcome at text attributes state sound)
 planned registered number (InsertElement at name attributes) state sound =
     let last : Unit {0} → Result (List Operation) EditFault = λ _. Ok (insertion at (empty_element state.document.next_id name attributes)) in
     let next : Unit {0} → Result (List Operation) EditFault = λ _. ids_left number 1 state >>= last in
@@ -197,22 +217,27 @@ planned registered number (InsertElement at name attributes) state sound =
     (λ _. after-check state (nat_le (state.document.next_id + 1) (2 ^ 63)) (IdsSpent number) last
     (λ left. insertion-welcome at (empty_element state.document.next_id name attributes) 1 state sound refl (left-over state.document.next_id 1 left))))
 planned registered number (Remove start end) state sound =
-    after-check state (is_range state.document.items start end) (BadRange number start end) (λ _. Ok (removals (length state.cells) (reverse (flat_parts (child_count state.document.items) (between start end)))))
-    (λ _. all-quiet (removals (length state.cells) (reverse (flat_parts (child_count state.document.items) (between start end)))) state sound (removals-quiet (length state.cells) (reverse (flat_parts (child_count state.document.items) (between start end)))))
+    after-check state (is_range state.document.items start end) (BadRange number start end)
+    (λ _. Ok (removals (length state.cells) (reverse (flat_parts (child_count state.document.items) (between start end)))))
+    (λ _. all-quiet (removals (length state.cells) (reverse (flat_parts (child_count state.document.items) (between start end)))) state sound
+    (removals-quiet (length state.cells) (reverse (flat_parts (child_count state.document.items) (between start end)))))
 planned registered number (Move start end to) state sound =
     let last : Unit {0} → Result (List Operation) EditFault = λ _. Ok (moved_run start end to) in
     let next : Unit {0} → Result (List Operation) EditFault = λ _. check (not (is_between start end to)) (BadTarget number to) >>= last in
-    after-check state (is_there state.document.items to) (BadPosition number to) (λ _. check (is_range state.document.items start end && are_in_one start end) (BadRange number start end) >>= next)
+    after-check state (is_there state.document.items to) (BadPosition number to)
+    (λ _. check (is_range state.document.items start end && are_in_one start end) (BadRange number start end) >>= next)
     (λ there. after-check state (is_range state.document.items start end && are_in_one start end) (BadRange number start end) next
     (λ flat. after-check state (not (is_between start end to)) (BadTarget number to) last
     (λ _. all-quiet (moved_run start end to) state sound
     (if-quiet (same_position start end || same_position to start || same_position to end) (move (in_tree start) (count_in start end) (in_tree to))
-    (let r = ranged state.document.items start end (first_and_second (is_range state.document.items start end) (are_in_one start end) flat).0 in (there-some state.document.items start r.first, there-some state.document.items to there))))))
+    (let r = ranged state.document.items start end (first_and_second (is_range state.document.items start end) (are_in_one start end) flat).0
+    in (there-some state.document.items start r.first, there-some state.document.items to there))))))
 planned registered number (SetAttribute target key value) state sound = given-welcome number target key (Some value) state sound
 planned registered number (RemoveAttribute target key) state sound = given-welcome number target key None state sound
 planned registered number (Rename path name) state sound =
     let last : List ℕ → Result (List Operation) EditFault = λ old. Ok (renaming path old name) in
-    after-check state (is_known registered name) (NotRegistered number name) (λ _. ok_or (option_and_then name_of (item_at path state.document.items)) (BadTarget number path) >>= last)
+    after-check state (is_known registered name) (NotRegistered number name)
+    (λ _. ok_or (option_and_then name_of (item_at path state.document.items)) (BadTarget number path) >>= last)
     (λ _. after-some state (option_and_then name_of (item_at path state.document.items)) (BadTarget number path) last
     (λ old _. all-quiet (renaming path old name) state sound (if-quiet (same_position old name) (rename path old name) tt)))
 planned registered number (Split at) state sound =
@@ -236,12 +261,15 @@ planned registered number (Wrap start end name attributes) state sound =
     let run = move (in_tree start) (count_in start end) (in_tree (end ++ 0 ∷ [])) in
     let last : Unit {0} → Result (List Operation) EditFault = λ _. Ok (insertion end items ++ (if same_position start end then [] else run ∷ [])) in
     let next : Unit {0} → Result (List Operation) EditFault = λ _. ids_left number 1 state >>= last in
-    after-check state (is_known registered name) (NotRegistered number name) (λ _. check (is_range state.document.items start end && are_in_one start end) (BadRange number start end) >>= next)
+    after-check state (is_known registered name) (NotRegistered number name)
+    (λ _. check (is_range state.document.items start end && are_in_one start end) (BadRange number start end) >>= next)
     (λ _. after-check state (is_range state.document.items start end && are_in_one start end) (BadRange number start end) next
     (λ flat. after-check state (nat_le (state.document.next_id + 1) (2 ^ 63)) (IdsSpent number) last
-    (λ left. then-quiet (insert end items) (if same_position start end then [] else run ∷ []) state sound tt (insert-welcome end items 1 state sound refl (left-over state.document.next_id 1 left))
+    (λ left. then-quiet (insert end items) (if same_position start end then [] else run ∷ []) state sound tt
+    (insert-welcome end items 1 state sound refl (left-over state.document.next_id 1 left))
     (if-quiet (same_position start end) run
-    (let r = ranged state.document.items start end (first_and_second (is_range state.document.items start end) (are_in_one start end) flat).0 in (there-some state.document.items start r.first, pushed-some end 0))))))
+    (let r = ranged state.document.items start end (first_and_second (is_range state.document.items start end) (are_in_one start end) flat).0
+    in (there-some state.document.items start r.first, pushed-some end 0))))))
 planned registered number (Unwrap path) state sound =
     let count = unwrap_or (child_count state.document.items path) 0 in
     let items = move (in_tree (path ++ 0 ∷ [])) count (in_tree (behind path)) in
@@ -249,22 +277,30 @@ planned registered number (Unwrap path) state sound =
     let all = (if count == 0 then [] else items ∷ []) ++ shell ∷ [] in
     after-check state (is_element state.document.items path) (BadTarget number path) (λ _. Ok all)
     (λ there. all-quiet all state sound
-    (all-quiet-append (if count == 0 then [] else items ∷ []) (shell ∷ []) (if-quiet (count == 0) items (pushed-some path 0, behind-some path (element-some state.document.items path there))) (tt, tt)))
+    (all-quiet-append (if count == 0 then [] else items ∷ []) (shell ∷ [])
+    (if-quiet (count == 0) items (pushed-some path 0, behind-some path (element-some state.document.items path there))) (tt, tt)))
 planned registered number (AddMarker name start end) state sound =
     let last : Unit {0} → Result (List Operation) EditFault = λ _. Ok (marker name None (Some (between start end)) ∷ []) in
-    after-check state (is_range state.document.items start end) (BadRange number start end) (λ _. check (is_none (value_of name state.document.markers)) (MarkerExists number name) >>= last)
-    (λ there. after-check state (is_none (value_of name state.document.markers)) (MarkerExists number name) last (λ _. marker-welcome name None start end state sound there))
+    after-check state (is_range state.document.items start end) (BadRange number start end)
+    (λ _. check (is_none (value_of name state.document.markers)) (MarkerExists number name) >>= last)
+    (λ there. after-check state (is_none (value_of name state.document.markers)) (MarkerExists number name) last
+    (λ _. marker-welcome name None start end state sound there))
 planned registered number (UpdateMarker name start end) state sound =
-    let last : Range → Result (List Operation) EditFault = λ old. Ok (if same_range old (between start end) then [] else marker name (Some old) (Some (between start end)) ∷ []) in
+    let last : Range → Result (List Operation) EditFault = λ old. Ok (if same_range old (between start end) then []
+    else marker name (Some old) (Some (between start end)) ∷ []) in
     after-check state (is_range state.document.items start end) (BadRange number start end) (λ _. marker_of number name state >>= last)
-    (λ there. after-some state (value_of name state.document.markers) (MarkerUnknown number name) last (λ old _. go (same_range old (between start end)) old there))
+    (λ there. after-some state (value_of name state.document.markers) (MarkerUnknown number name) last
+    (λ old _. go (same_range old (between start end)) old there))
   where
-    go : (t : Bool) (old : Range) → is_range state.document.items start end ≡ true → AreWelcome (if t then [] else marker name (Some old) (Some (between start end)) ∷ []) state
+    go : (t : Bool) (old : Range) → is_range state.document.items start end ≡ true
+        → AreWelcome (if t then [] else marker name (Some old) (Some (between start end)) ∷ []) state
     go true old there = tt
     go false old there = marker-welcome name (Some old) start end state sound there
 planned registered number (RemoveMarker name) state sound =
-    after-some state (value_of name state.document.markers) (MarkerUnknown number name) (λ old. Ok (marker name (Some old) None ∷ [])) (λ old _. all-quiet (marker name (Some old) None ∷ []) state sound (tt, tt))
-planned registered number (Select start end backward) state sound = after-check state (is_range state.document.items start end) (BadRange number start end) (λ _. Ok []) (λ _. tt)
+    after-some state (value_of name state.document.markers) (MarkerUnknown number name) (λ old. Ok (marker name (Some old) None ∷ []))
+    (λ old _. all-quiet (marker name (Some old) None ∷ []) state sound (tt, tt))
+planned registered number (Select start end backward) state sound = after-check state (is_range state.document.items start end)
+    (BadRange number start end) (λ _. Ok []) (λ _. tt)
 planned registered number (SelectionAttribute key value) state sound = tt
 planned registered number (InsertItems at items) state sound =
     let last : Unit {0} → Result (List Operation) EditFault = λ _. Ok (insertion at (with_ids state.document.next_id items)) in
@@ -272,8 +308,10 @@ planned registered number (InsertItems at items) state sound =
     after-all state (known_names number (unknown_in registered items)) (λ _. check (is_there state.document.items at) (BadPosition number at) >>= next)
     (λ _. after-check state (is_there state.document.items at) (BadPosition number at) next
     (λ _. after-check state (nat_le (state.document.next_id + length (ids_of items)) (2 ^ 63)) (IdsSpent number) last
-    (λ left. insertion-welcome at (with_ids state.document.next_id items) (length (ids_of items)) state sound (ids-numbered state.document.next_id items) (left-over state.document.next_id (length (ids_of items)) left))))
+    (λ left. insertion-welcome at (with_ids state.document.next_id items) (length (ids_of items)) state sound
+    (ids-numbered state.document.next_id items) (left-over state.document.next_id (length (ids_of items)) left))))
 
 -- so the operations that are planned are welcome
-pub planned_welcome : (registered : List ℕ → Bool) (number : ℕ) (edit : Edit) (state : State) (operations : List Operation) → IsSound state → operations_of registered number edit state ≡ Ok operations → AreWelcome operations state
+pub planned_welcome : (registered : List ℕ → Bool) (number : ℕ) (edit : Edit) (state : State) (operations : List Operation) → IsSound state
+    → operations_of registered number edit state ≡ Ok operations → AreWelcome operations state
 planned_welcome registered number edit state operations sound e = subst (Welcome state) e (planned registered number edit state sound)

@@ -1,5 +1,6 @@
 //! Changes of attributes.
-ghost use Rattle.std.specs.Prelude.{◌≡◌, ◌≢◌, ◌∷◌, [], ◌++◌, ◌+◌, ◌<◌, ◌≤◌, ◌^◌, ℕ, List, Bool, length, IsTrue, Ok, Err, Some, None, IfOk, IfErr, OnOk, option_copied};
+ghost use Rattle.std.specs.Prelude.{◌≡◌, ◌≢◌, ◌∷◌, [], ◌++◌, ◌+◌, ◌<◌, ◌≤◌, ◌^◌, ℕ, List, Bool, length, IsTrue, Ok, Err, Some, None, IfOk, IfErr, OnOk};
+ghost use Rattle.std.specs.Prelude.{option_copied};
 ghost use Rattle.std.specs.List.{flat_map};
 ghost use Rattle.ck_base.specs.declared.faults.EditFault.TheVariants.{NoMemory as OutOfMemory};
 ghost use Rattle.item_definitions.specs.Children.{parent_of};
@@ -49,7 +50,8 @@ fn change(
     run: &Run,
 ) -> Result<Operation, NoMemory>
     requires { length parent.now < 65 }
-    ensures { IfOk result (λ operation. operation_of operation ≡ meant.attribute (between (parent.now ++ run.now.from ∷ []) (parent.now ++ run.now.to ∷ [])) key.now run.now.old (option_copied new.entry)) }
+    ensures { IfOk result (λ operation. operation_of operation
+        ≡ meant.attribute (between (parent.now ++ run.now.from ∷ []) (parent.now ++ run.now.to ∷ [])) key.now run.now.old (option_copied new.entry)) }
 {
     let key = key.copy()?;
     let old = copied_value(run.old.as_ref())?;
@@ -73,7 +75,8 @@ fn push_changes(
     runs: &[Run],
 ) -> Result<(), EditFault>
     requires { length parent.now < 65 }
-    ensures ok { OnOk result (operations_in operations.new ≡ operations_in operations.old ++ attribute_runs parent.now key.now (option_copied new.entry) runs.now) }
+    ensures ok { OnOk result (operations_in operations.new ≡ operations_in operations.old ++ attribute_runs parent.now key.now (option_copied new.entry)
+        runs.now) }
     ensures fault { IfErr result (λ fault. fault ≡ OutOfMemory) }
 {
     for run in runs {
@@ -88,7 +91,8 @@ fn push_changes(
 /// The runs of the items of a flat range.
 #[tactic(auto, using(crate::proofs::Given::run_fits, crate::proofs::Given::runs_there, crate::proofs::Given::runs_nowhere))]
 fn runs_in(tree: &Tree, part: &Range, key: &Name, new: Option<&Value>) -> Result<Vec<Run>, NoMemory>
-    ensures { IfOk result (λ runs. attribute_runs (parent_of part.now.start) key.now (option_copied new.entry) runs.items ≡ give_in tree.now key.now (option_copied new.entry) part.now) }
+    ensures { IfOk result (λ runs. attribute_runs (parent_of part.now.start) key.now (option_copied new.entry) runs.items
+        ≡ give_in tree.now key.now (option_copied new.entry) part.now) }
 {
     let items = tree.items();
     let (parent, start) = part.start().split();

@@ -100,7 +100,8 @@ fn override_attribute(
     key: &Name,
     value: &Option<Value>,
 ) -> Result<(), EditFault>
-    ensures ok { OnOk result (document.new ≡ in_state (with_selection (with_override key.now value.now document.old.state.document.selection) document.old.state) document.old) }
+    ensures ok { OnOk result (document.new
+        ≡ in_state (with_selection (with_override key.now value.now document.old.state.document.selection) document.old.state) document.old) }
     ensures fault { IfErr result (λ fault. fault ≡ OutOfMemory) }
     ensures err { OnErr result (document.new ≡ document.old) }
 {

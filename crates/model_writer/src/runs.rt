@@ -85,7 +85,8 @@ fn put_before(
     new: Option<&Value>,
 ) -> Result<(), NoMemory>
     requires { from ≤ to }
-    ensures { OnOk result (reverse runs.new.items ≡ with_change (option_copied new.entry) (record { from = from; to = to; old = option_copied old.entry }) (reverse runs.old.items)) }
+    ensures { OnOk result (reverse runs.new.items
+        ≡ with_change (option_copied new.entry) (record { from = from; to = to; old = option_copied old.entry }) (reverse runs.old.items)) }
 {
     if is_same_value(old, new) {
         return Ok(());

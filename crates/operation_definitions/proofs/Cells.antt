@@ -1,5 +1,6 @@
 -- What is in the cells after one is filled or emptied.
-use Rattle.std.proofs.Common.{◌≡◌, ◌≢◌, ℕ, zero, suc, ◌<◌, ◌≤◌, Bool, true, false, ◌&&◌, nat_lt, nat_le, ◌==◌, if◌then◌else◌, List, [], ◌∷◌, ◌++◌, length, get_or, set, refl, sym, ap, ◌∙◌, arith, length-append, length-set}
+use Rattle.std.proofs.Common.{◌≡◌, ◌≢◌, ℕ, zero, suc, ◌<◌, ◌≤◌, Bool, true, false, ◌&&◌, nat_lt, nat_le, ◌==◌, if◌then◌else◌, List, [], ◌∷◌, ◌++◌, length}
+use Rattle.std.proofs.Common.{get_or, set, refl, sym, ap, ◌∙◌, arith, length-append, length-set}
 use Rattle.std.proofs.lemmas.Bool.Decides.{nat_tests}
 use Rattle.ck_base.proofs.Common.{first, second}
 use Rattle.item_definitions.specs.Item.{Item}
@@ -33,7 +34,8 @@ if-more k n a b = ap (λ t. if t then a else b) (same k n)
     same : (k n : ℕ) → (suc k == suc n) ≡ (k == n)
     same k n = grind (arith, nat_tests)
 
-get-set : (cells : List (List Item)) (n k : ℕ) (items : List Item) → n < length cells → get_or (set cells n items) k [] ≡ (if k == n then items else get_or cells k [])
+get-set : (cells : List (List Item)) (n k : ℕ) (items : List Item) → n < length cells → get_or (set cells n items) k []
+    ≡ (if k == n then items else get_or cells k [])
 get-set [] n k items less = absurd (omega arith)
 get-set (cell ∷ cells) zero zero items less = refl
 get-set (cell ∷ cells) zero (suc k) items less = sym (if-other (suc k) 0 items (get_or cells k []) (λ e. absurd (omega arith)))
@@ -47,10 +49,12 @@ get-push (cell ∷ cells) zero items = sym (if-other 0 (length (cell ∷ cells))
 get-push (cell ∷ cells) (suc k) items = get-push cells k items ∙ sym (if-more k (length cells) items (get_or cells k []))
 
 -- a cell that was filled has what it was filled with, and the others have what they had
-pub fill-at : (cells : List (List Item)) (n k : ℕ) (items : List Item) → n ≤ length cells → in_cell_at (fill cells n items) k ≡ (if k == n then items else in_cell_at cells k)
+pub fill-at : (cells : List (List Item)) (n k : ℕ) (items : List Item) → n ≤ length cells → in_cell_at (fill cells n items) k
+    ≡ (if k == n then items else in_cell_at cells k)
 fill-at cells n k items room = go (nat_lt n (length cells)) refl
   where
-    go : (t : Bool) → t ≡ nat_lt n (length cells) → get_or (if t then set cells n items else cells ++ items ∷ []) k [] ≡ (if k == n then items else get_or cells k [])
+    go : (t : Bool) → t ≡ nat_lt n (length cells) → get_or (if t then set cells n items else cells ++ items ∷ []) k []
+        ≡ (if k == n then items else get_or cells k [])
     go true t = (let less : n < length cells = grind (arith, nat_tests) in get-set cells n k items less)
     go false t = (let last : length cells ≡ n = grind (arith, nat_tests) in get-push cells k items ∙ ap (λ m. if k == m then items else get_or cells k []) last)
 
@@ -72,7 +76,8 @@ fill-holds cells n items free =
     both : (n m a b : ℕ) → n < m → a ≡ b → (nat_lt n m && a == b) ≡ true
     both n m a b less same = grind (arith, nat_tests)
 
-pub emptied-at : (cells : List (List Item)) (n k : ℕ) (items : List Item) → is_free cells n ≡ true → in_cell_at (set (fill cells n items) n []) k ≡ in_cell_at cells k
+pub emptied-at : (cells : List (List Item)) (n k : ℕ) (items : List Item) → is_free cells n ≡ true → in_cell_at (set (fill cells n items) n []) k
+    ≡ in_cell_at cells k
 emptied-at cells n k items free =
     let room = free-room cells n free in
     get-set (fill cells n items) n k [] (fill-room cells n items room)

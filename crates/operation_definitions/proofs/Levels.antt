@@ -1,5 +1,7 @@
 -- How each change of one list of items is taken back.
-use Rattle.std.proofs.Common.{◌≡◌, ℕ, zero, suc, ◌+◌, ◌-◌, ◌≤◌, Bool, true, false, nat_le, if◌then◌else◌, List, [], ◌∷◌, ◌++◌, length, take, drop, Option, Some, None, option_map, option_and_then, slice_get, refl, sym, ap, ◌∙◌, subst, arith, append_assoc, append-nil, length-append, length-take, length-drop}
+use Rattle.std.proofs.Common.{◌≡◌, ℕ, zero, suc, ◌+◌, ◌-◌, ◌≤◌, Bool, true, false, nat_le, if◌then◌else◌, List, [], ◌∷◌, ◌++◌, length, take, drop, Option, Some}
+use Rattle.std.proofs.Common.{None, option_map, option_and_then, slice_get, refl, sym, ap, ◌∙◌, subst, arith, append_assoc, append-nil, length-append}
+use Rattle.std.proofs.Common.{length-take, length-drop}
 use Rattle.std.specs.Option.{option_map_or}
 use Rattle.std.proofs.lemmas.List.{take-append-drop}
 use Rattle.std.proofs.lemmas.Bool.Decides.{nat_tests}
@@ -34,10 +36,12 @@ pub record Replaced {R : Type 0} (offset count : ℕ) (change : Change R) (xs ys
   pub gives : change (take count (drop offset xs)) ≡ Some (new, r)
   pub result : take offset xs ++ (new ++ drop (offset + count) xs) ≡ ys
 
-pub replaced : {R : Type 0} (offset count : ℕ) (change : Change R) (xs ys : List Item) (r : R) → replace offset count change xs ≡ Some (ys, r) → Replaced offset count change xs ys r
+pub replaced : {R : Type 0} (offset count : ℕ) (change : Change R) (xs ys : List Item) (r : R) → replace offset count change xs ≡ Some (ys, r)
+    → Replaced offset count change xs ys r
 replaced {R = R} offset count change xs ys r e = go (nat_le (offset + count) (length xs)) refl e
   where
-    go : (t : Bool) → t ≡ nat_le (offset + count) (length xs) → (if t then option_map (put_back offset count xs) (change (take count (drop offset xs))) else None) ≡ Some (ys, r)
+    go : (t : Bool) → t ≡ nat_le (offset + count) (length xs)
+        → (if t then option_map (put_back offset count xs) (change (take count (drop offset xs))) else None) ≡ Some (ys, r)
         → Replaced offset count change xs ys r
     go true t e =
         let a = map-some (put_back offset count xs) (change (take count (drop offset xs))) (ys, r) e in
@@ -49,7 +53,8 @@ replaced {R = R} offset count change xs ys r e = go (nat_le (offset + count) (le
         }
     go false t e = absurd cc
 
-replace-three : {R : Type 0} (change : Change R) (a b c new : List Item) (r : R) → change b ≡ Some (new, r) → replace (length a) (length b) change (a ++ (b ++ c)) ≡ Some (a ++ (new ++ c), r)
+replace-three : {R : Type 0} (change : Change R) (a b c new : List Item) (r : R) → change b ≡ Some (new, r)
+    → replace (length a) (length b) change (a ++ (b ++ c)) ≡ Some (a ++ (new ++ c), r)
 replace-three {R = R} change a b c new r e =
     let xs = a ++ (b ++ c) in
     let make : List Item × R → List Item × R = λ made. (take (length a) xs ++ (made.0 ++ drop (length a + length b) xs), made.1) in
@@ -71,7 +76,8 @@ replace-back offset count again f g r s back xs ys e =
     let middle : length run ≡ count = omega (arith, length-take count (drop offset xs), length-drop offset xs, h.room) in
     let turned = back run h.new middle h.gives in
     subst (λ zs. replace offset again g zs ≡ Some (xs, s)) h.result
-    ((λ t. replace (sym front t) (sym turned.0 t) g (a ++ (h.new ++ c))) ∙ replace-three g a h.new c run s turned.1 ∙ ap (λ zs. Some (zs, s)) (in_three offset count xs))
+    ((λ t. replace (sym front t) (sym turned.0 t) g (a ++ (h.new ++ c))) ∙ replace-three g a h.new c run s turned.1
+    ∙ ap (λ zs. Some (zs, s)) (in_three offset count xs))
 
 -- the parts of what an option has
 abbrev first : {R : Type 0} → Option (List Item × R) → List Item
@@ -87,7 +93,8 @@ pub put_in-back : (offset : ℕ) (new : List Item) → TakesBack (put_in offset 
 put_in-back offset new =
     replace-back offset 0 (length new) (λ items. Some (new ++ items, tt)) (λ run. Some ([], run)) tt new turn
   where
-    turn : (run made : List Item) → length run ≡ 0 → ◌≡◌ {A = Option (List Item × Unit {0})} (Some (new ++ run, tt)) (Some (made, tt)) → (length made ≡ length new) × (◌≡◌ {A = Option (List Item × List Item)} (Some ([], made)) (Some (run, new)))
+    turn : (run made : List Item) → length run ≡ 0 → ◌≡◌ {A = Option (List Item × Unit {0})} (Some (new ++ run, tt)) (Some (made, tt))
+        → (length made ≡ length new) × (◌≡◌ {A = Option (List Item × List Item)} (Some ([], made)) (Some (run, new)))
     turn [] made short e =
         let same : made ≡ new = sym (ap first e) ∙ append-nil new in
         (ap length same, ap (λ m. Some ([], m)) same)
@@ -98,7 +105,8 @@ pub take_out-back : (offset count : ℕ) (run : List Item) → TakesBack (take_o
 take_out-back offset count run =
     replace-back offset count 0 (λ items. Some ([], items)) (λ items. Some (run ++ items, tt)) run tt turn
   where
-    turn : (items made : List Item) → length items ≡ count → ◌≡◌ {A = Option (List Item × List Item)} (Some ([], items)) (Some (made, run)) → (length made ≡ 0) × (◌≡◌ {A = Option (List Item × Unit {0})} (Some (run ++ made, tt)) (Some (items, tt)))
+    turn : (items made : List Item) → length items ≡ count → ◌≡◌ {A = Option (List Item × List Item)} (Some ([], items)) (Some (made, run))
+        → (length made ≡ 0) × (◌≡◌ {A = Option (List Item × Unit {0})} (Some (run ++ made, tt)) (Some (items, tt)))
     turn items made long e =
         let gone : [] ≡ made = ap first e in
         let kept : items ≡ run = ap second e in
@@ -115,7 +123,8 @@ take_out-long offset count xs ys run e =
 pub rename-back : (index : ℕ) (old new : List ℕ) → TakesBack (rename_at index new) (rename_at index old) old new
 rename-back index old new = replace-back index 1 1 (one_item (renamed new)) (one_item (renamed old)) old new turn
   where
-    turn : (run made : List Item) → length run ≡ 1 → one_item (renamed new) run ≡ Some (made, old) → (length made ≡ 1) × (one_item (renamed old) made ≡ Some (run, new))
+    turn : (run made : List Item) → length run ≡ 1 → one_item (renamed new) run ≡ Some (made, old) → (length made ≡ 1)
+        × (one_item (renamed old) made ≡ Some (run, new))
     turn [] made long e = absurd cc
     turn (character scalar attributes ∷ []) made long e = absurd cc
     turn (element id name attributes children ∷ []) made long e =
@@ -126,15 +135,25 @@ rename-back index old new = replace-back index 1 1 (one_item (renamed new)) (one
 
 -- what a split gives: the offset was in the element, and the shell
 pub split-some : (offset : ℕ) (shell item : Item) (made : List Item) (r : Item) → split_item offset shell item ≡ Some (made, r)
-    → (children : List Item) × (inner item ≡ Some children) × (offset ≤ length children) × (with_inner (take offset children) item ∷ with_inner (drop offset children) shell ∷ [] ≡ made) × (shell ≡ r)
+    → (children : List Item) × (inner item ≡ Some children) × (offset ≤ length children)
+    × (with_inner (take offset children) item ∷ with_inner (drop offset children) shell ∷ [] ≡ made) × (shell ≡ r)
 split-some offset shell item made r e =
-    let a = then-some (λ children. if nat_le offset (length children) then Some (with_inner (take offset children) item ∷ with_inner (drop offset children) shell ∷ [], shell) else None) (inner item) (made, r) e in
+    let a = then-some (λ children. if nat_le offset (length children)
+    then Some (with_inner (take offset children) item ∷ with_inner (drop offset children) shell ∷ [], shell) else None) (inner item) (made, r) e in
     go a.0 a.1 (nat_le offset (length a.0)) refl a.2
   where
     go : (children : List Item) → inner item ≡ Some children → (t : Bool) → t ≡ nat_le offset (length children)
-        → ◌≡◌ {A = Option (List Item × Item)} (if t then Some (with_inner (take offset children) item ∷ with_inner (drop offset children) shell ∷ [], shell) else None) (Some (made, r))
-        → (children : List Item) × (inner item ≡ Some children) × (offset ≤ length children) × (with_inner (take offset children) item ∷ with_inner (drop offset children) shell ∷ [] ≡ made) × (shell ≡ r)
-    go children here true t e = (children, here, grind (arith, nat_tests), ap first e, ap (λ (o : Option (List Item × Item)). option_map_or (λ (p : List Item × Item). p.1) o r) e)
+        → ◌≡◌ {A = Option (List Item × Item)} (if t
+        then Some (with_inner (take offset children) item ∷ with_inner (drop offset children) shell ∷ [], shell) else None) (Some (made, r))
+        → (children : List Item) × (inner item ≡ Some children) × (offset ≤ length children)
+        × (with_inner (take offset children) item ∷ with_inner (drop offset children) shell ∷ [] ≡ made) × (shell ≡ r)
+    go children here true t e = (
+      children,
+      here,
+      grind (arith, nat_tests),
+      ap first e,
+      ap (λ (o : Option (List Item × Item)). option_map_or (λ (p : List Item × Item). p.1) o r) e,
+    )
     go children here false t e = absurd cc
 
 -- a merge of two elements
@@ -145,14 +164,16 @@ merge-two left right front back e f =
     ∙ ap (option_map (λ back. (with_inner (front ++ back) left ∷ [], (with_inner [] right, length front)))) f
 
 -- a split element is one again
-pub split-back : (index offset : ℕ) (shell : Item → Item) (r : Item) → ((item : Item) (children : List Item) → inner item ≡ Some children → inner (shell item) ≡ Some [])
+pub split-back : (index offset : ℕ) (shell : Item → Item) (r : Item)
+    → ((item : Item) (children : List Item) → inner item ≡ Some children → inner (shell item) ≡ Some [])
     → TakesBack (split_at index offset shell) (merge_at (index + 1)) r (with_inner [] r, offset)
 split-back index offset shell r bare =
     let same : index + 1 - 1 ≡ index = omega arith in
     subst (λ n. TakesBack (split_at index offset shell) (replace n 2 merge_items) r (with_inner [] r, offset)) (sym same)
     (replace-back index 1 2 (one_item (λ item. split_item offset (shell item) item)) merge_items r (with_inner [] r, offset) turn)
   where
-    turn : (run made : List Item) → length run ≡ 1 → one_item (λ item. split_item offset (shell item) item) run ≡ Some (made, r) → (length made ≡ 2) × (merge_items made ≡ Some (run, (with_inner [] r, offset)))
+    turn : (run made : List Item) → length run ≡ 1 → one_item (λ item. split_item offset (shell item) item) run ≡ Some (made, r) → (length made ≡ 2)
+        × (merge_items made ≡ Some (run, (with_inner [] r, offset)))
     turn [] made long e = absurd cc
     turn (item ∷ []) made long e =
         let s = split-some offset (shell item) item made r e in
@@ -160,8 +181,12 @@ split-back index offset shell r bare =
         let right = with_inner (drop offset s.0) (shell item) in (
           ap length (sym s.3),
           ap merge_items (sym s.3)
-              ∙ merge-two left right (take offset s.0) (drop offset s.0) (inner-with_inner item s.0 (take offset s.0) s.1) (inner-with_inner (shell item) [] (drop offset s.0) (bare item s.0 s.1))
-              ∙ (λ t. Some (with_inner (take-append-drop offset s.0 t) left ∷ [], (with_inner-twice (shell item) [] (drop offset s.0) t, length (take offset s.0))))
+              ∙ merge-two left right (take offset s.0) (drop offset s.0) (inner-with_inner item s.0 (take offset s.0) s.1)
+              (inner-with_inner (shell item) [] (drop offset s.0) (bare item s.0 s.1))
+              ∙ (λ t. Some (
+                with_inner (take-append-drop offset s.0 t) left ∷ [],
+                (with_inner-twice (shell item) [] (drop offset s.0) t, length (take offset s.0)),
+              ))
               ∙ (λ t. Some (with_inner-again item s.0 (take offset s.0) s.1 t ∷ [], (with_inner [] (s.4 t), taken offset s.0 s.2 t))),
         )
       where
@@ -173,22 +198,27 @@ split-back index offset shell r bare =
 pub merge-back : (index offset : ℕ) (shell : Item) → TakesBack (merge_at index) (split_at (index - 1) offset (λ _. shell)) (shell, offset) shell
 merge-back index offset shell = replace-back (index - 1) 2 1 merge_items (one_item (λ item. split_item offset shell item)) (shell, offset) shell turn
   where
-    parted : (left right : Item) (front back : List Item) (shell : Item) (offset : ℕ) → inner left ≡ Some front → inner right ≡ Some back → with_inner [] right ≡ shell → length front ≡ offset
+    parted : (left right : Item) (front back : List Item) (shell : Item) (offset : ℕ) → inner left ≡ Some front → inner right ≡ Some back
+        → with_inner [] right ≡ shell → length front ≡ offset
         → split_item offset shell (with_inner (front ++ back) left) ≡ Some (left ∷ right ∷ [], shell)
     parted left right front back shell offset e f bare count =
         let whole = with_inner (front ++ back) left in
         let room : nat_le offset (length (front ++ back)) ≡ true = most offset (length (front ++ back)) (omega (arith, length-append front back)) in
-        ap (option_and_then (λ children. if nat_le offset (length children) then Some (with_inner (take offset children) whole ∷ with_inner (drop offset children) shell ∷ [], shell) else None)) (inner-with_inner left front (front ++ back) e)
+        ap (option_and_then (λ children. if nat_le offset (length children)
+        then Some (with_inner (take offset children) whole ∷ with_inner (drop offset children) shell ∷ [], shell) else None))
+        (inner-with_inner left front (front ++ back) e)
         ∙ ap (λ t. if t then Some (with_inner (take offset (front ++ back)) whole ∷ with_inner (drop offset (front ++ back)) shell ∷ [], shell) else None) room
         ∙ (λ t. Some (with_inner (take (sym count t) (front ++ back)) whole ∷ with_inner (drop (sym count t) (front ++ back)) (sym bare t) ∷ [], shell))
         ∙ (λ t. Some (with_inner (take-front front back t) whole ∷ with_inner (drop-front front back t) (with_inner [] right) ∷ [], shell))
         ∙ (λ t. Some (with_inner-again left front (front ++ back) e t ∷ with_inner-again right back [] f t ∷ [], shell))
 
-    turn : (run made : List Item) → length run ≡ 2 → merge_items run ≡ Some (made, (shell, offset)) → (length made ≡ 1) × (one_item (λ item. split_item offset shell item) made ≡ Some (run, shell))
+    turn : (run made : List Item) → length run ≡ 2 → merge_items run ≡ Some (made, (shell, offset)) → (length made ≡ 1)
+        × (one_item (λ item. split_item offset shell item) made ≡ Some (run, shell))
     turn [] made long e = absurd cc
     turn (left ∷ []) made long e = absurd cc
     turn (left ∷ right ∷ []) made long e =
-        let a = then-some (λ front. option_map (λ back. (with_inner (front ++ back) left ∷ [], (with_inner [] right, length front))) (inner right)) (inner left) (made, (shell, offset)) e in
+        let a = then-some (λ front. option_map (λ back. (with_inner (front ++ back) left ∷ [], (with_inner [] right, length front))) (inner right))
+        (inner left) (made, (shell, offset)) e in
         let b = map-some (λ back. (with_inner (a.0 ++ back) left ∷ [], (with_inner [] right, length a.0))) (inner right) (made, (shell, offset)) a.2 in
         let same : with_inner (a.0 ++ b.0) left ∷ [] ≡ made = ap (λ (p : List Item × (Item × ℕ)). p.0) b.2 in
         let bare : with_inner [] right ≡ shell = ap (λ (p : List Item × (Item × ℕ)). p.1.0) b.2 in
@@ -197,7 +227,8 @@ merge-back index offset shell = replace-back (index - 1) 2 1 merge_items (one_it
     turn (left ∷ right ∷ next ∷ rest) made long e = absurd cc
 
 -- the change of one item is that of the item at the index
-pub item-there : {R : Type 0} (index : ℕ) (change : Item → Option (List Item × R)) (xs ys : List Item) (r : R) → replace index 1 (one_item change) xs ≡ Some (ys, r)
+pub item-there : {R : Type 0} (index : ℕ) (change : Item → Option (List Item × R)) (xs ys : List Item) (r : R) → replace index 1 (one_item change) xs
+    ≡ Some (ys, r)
     → (item : Item) × (made : List Item) × (slice_get xs index ≡ Some item) × (change item ≡ Some (made, r))
 item-there {R = R} index change xs ys r e =
     let h = replaced index 1 (one_item change) xs ys r e in
@@ -209,7 +240,8 @@ item-there {R = R} index change xs ys r e =
     found (z ∷ zs) zero item e = (let same : z ≡ item = cc in ap Some same)
     found (z ∷ zs) (suc i) item e = found zs i item e
 
-    go : {new : List Item} (run : List Item) → take 1 (drop index xs) ≡ run → one_item change run ≡ Some (new, r) → (item : Item) × (made : List Item) × (slice_get xs index ≡ Some item) × (change item ≡ Some (made, r))
+    go : {new : List Item} (run : List Item) → take 1 (drop index xs) ≡ run → one_item change run ≡ Some (new, r) → (item : Item) × (made : List Item)
+        × (slice_get xs index ≡ Some item) × (change item ≡ Some (made, r))
     go [] same e = absurd cc
     go {new = new} (item ∷ []) same e = (item, new, found xs index item same, e)
     go (item ∷ next ∷ rest) same e = absurd cc

@@ -1,5 +1,6 @@
 -- What takes a change of one list of items back also takes it back in the element at a path.
-use Rattle.std.proofs.Common.{◌≡◌, ℕ, zero, suc, List, [], ◌∷◌, ◌++◌, Option, Some, None, option_map, option_and_then, slice_get, slice_set, refl, sym, ap, ◌∙◌, subst}
+use Rattle.std.proofs.Common.{◌≡◌, ℕ, zero, suc, List, [], ◌∷◌, ◌++◌, Option, Some, None, option_map, option_and_then, slice_get, slice_set, refl, sym, ap, ◌∙◌}
+use Rattle.std.proofs.Common.{subst}
 use Rattle.item_definitions.specs.Item.{Item, Items, character, element, none, more, list_of, items_of, inner, with_inner}
 use Rattle.item_definitions.specs.Children.{Change, at, at_index, in_item}
 
@@ -49,7 +50,8 @@ set-again (z ∷ xs) (suc i) x y e = ap (λ rest. z ∷ rest) (set-again xs i x 
 abbrev pub TakesBack : {R S : Type 0} → Change R → Change S → R → S → Type 0
 TakesBack f g r s = (xs ys : List Item) → f xs ≡ Some (ys, r) → g ys ≡ Some (xs, s)
 
-in_item-back : {R S : Type 0} (f : Change R) (g : Change S) (r : R) (s : S) → TakesBack f g r s → (x y : Item) → in_item f x ≡ Some (y, r) → in_item g y ≡ Some (x, s)
+in_item-back : {R S : Type 0} (f : Change R) (g : Change S) (r : R) (s : S) → TakesBack f g r s → (x y : Item) → in_item f x ≡ Some (y, r)
+    → in_item g y ≡ Some (x, s)
 in_item-back {R = R} f g r s back x y e =
     let a = then-some (λ items. option_map (λ made. (with_inner made.0 x, made.1)) (f items)) (inner x) (y, r) e in
     let b = map-some (λ made. (with_inner made.0 x, made.1)) (f a.0) (y, r) a.2 in
@@ -105,7 +107,8 @@ at-also {R = R} f g also (i ∷ path) xs ys r e =
     )
 
 -- a path that is longer by an index leads into the item there
-pub at-push : {R : Type 0} (path : List ℕ) (index : ℕ) (change : Change R) (xs : List Item) → at (path ++ index ∷ []) change xs ≡ at path (at_index index (in_item change)) xs
+pub at-push : {R : Type 0} (path : List ℕ) (index : ℕ) (change : Change R) (xs : List Item) → at (path ++ index ∷ []) change xs
+    ≡ at path (at_index index (in_item change)) xs
 at-push [] index change xs = refl
 at-push (i ∷ path) index change xs =
     ap (λ (f : Change _). at_index i (in_item f) xs) (λ t zs. at-push path index change zs t)

@@ -28,7 +28,8 @@ run-is from count position some =
     ∙ ap (λ p. not_after (parent_of from ++ offset_of from ∷ []) position && not_after position p) (forward-is count (parent_of from) (offset_of from))
 
 -- a place that can be filled can be left empty
-also-empty : (offset : ℕ) (run xs ys : List Item) (r : Unit {0}) → put_in offset run xs ≡ Some (ys, r) → (made : List Item × Unit {0}) × (put_in offset [] xs ≡ Some made)
+also-empty : (offset : ℕ) (run xs ys : List Item) (r : Unit {0}) → put_in offset run xs ≡ Some (ys, r) → (made : List Item × Unit {0})
+    × (put_in offset [] xs ≡ Some made)
 also-empty offset run xs ys r e = put_in-room offset [] xs (put_in-fits offset run xs ((ys, r), e))
 
 -- what a move in the tree gives whose steps are known
@@ -38,8 +39,10 @@ moved : (items left made run : List Item) (cells : List (List Item)) (from to : 
     → effect items cells (move (in_tree from) count (in_tree to)) ≡ Ok (made, cells)
 moved items left made run cells from to count there e f g h =
     let target = carry_remove from count to in
-    let last : List Item × List Item → Result State Fault = λ taken. ok_or (at (parent_of target) (put_in (offset_of target) taken.1) taken.0) no_place >>= (λ m. Ok (m.0, cells)) in
-    let next : List Item × List Item → Result State Fault = λ taken. ok_or (room_at items to) no_place >>= (λ _. check (not (is_in_run from count to)) into_itself >>= (λ _. last taken)) in
+    let last : List Item × List Item → Result State Fault = λ taken. ok_or (at (parent_of target) (put_in (offset_of target) taken.1) taken.0) no_place
+    >>= (λ m. Ok (m.0, cells)) in
+    let next : List Item × List Item → Result State Fault = λ taken. ok_or (room_at items to) no_place
+    >>= (λ _. check (not (is_in_run from count to)) into_itself >>= (λ _. last taken)) in
     let result : Result State Fault = Ok (made, cells) in
     step-some (at (parent_of from) (take_out (offset_of from) count) items) no_place next (left, run) result e
     (step-some (room_at items to) no_place (λ _. check (not (is_in_run from count to)) into_itself >>= (λ _. last (left, run))) there result f
@@ -47,12 +50,15 @@ moved items left made run cells from to count there e f g h =
     (step-some (at (parent_of target) (put_in (offset_of target) run) left) no_place (λ m. Ok (m.0, cells)) (made, tt) result h refl)))
 
 -- a move in the tree is taken back
-pub move-reversed : (items : List Item) (cells : List (List Item)) (from : List ℕ) (count : ℕ) (to : List ℕ) (made : State) (cell : ℕ) → IsLimited items → from ≢ [] → to ≢ []
+pub move-reversed : (items : List Item) (cells : List (List Item)) (from : List ℕ) (count : ℕ) (to : List ℕ) (made : State) (cell : ℕ) → IsLimited items
+    → from ≢ [] → to ≢ []
     → effect items cells (move (in_tree from) count (in_tree to)) ≡ Ok made → IsTakenBack items cells (move (in_tree from) count (in_tree to)) made cell
 move-reversed items cells from count to made cell limits some some_to e =
     let target = carry_remove from count to in
-    let last : List Item × List Item → Result State Fault = λ taken. ok_or (at (parent_of target) (put_in (offset_of target) taken.1) taken.0) no_place >>= (λ m. Ok (m.0, cells)) in
-    let next : List Item × List Item → Result State Fault = λ taken. ok_or (room_at items to) no_place >>= (λ _. check (not (is_in_run from count to)) into_itself >>= (λ _. last taken)) in
+    let last : List Item × List Item → Result State Fault = λ taken. ok_or (at (parent_of target) (put_in (offset_of target) taken.1) taken.0) no_place
+    >>= (λ m. Ok (m.0, cells)) in
+    let next : List Item × List Item → Result State Fault = λ taken. ok_or (room_at items to) no_place
+    >>= (λ _. check (not (is_in_run from count to)) into_itself >>= (λ _. last taken)) in
     let a = step-ok (ok_or (at (parent_of from) (take_out (offset_of from) count) items) no_place) next made e in
     let left = a.0.0 in
     let run = a.0.1 in
@@ -71,10 +77,12 @@ move-reversed items cells from count to made cell limits some some_to e =
     let here : from ≡ parent_of from ++ offset_of from ∷ [] = path-joined from some in
     let apart : parent_of target ++ offset_of target ∷ [] ≢ from =
     λ f. cut-outside (parent_of from) (offset_of from) count to (sym (run-is from count to some) ∙ out) (whole ∙ f ∙ here) in
-    let take_again = at-back (put_in (offset_of target) run) (take_out (offset_of target) (length run)) tt run (put_in-back (offset_of target) run) (parent_of target) left d.0.0 put_there in
+    let take_again = at-back (put_in (offset_of target) run) (take_out (offset_of target) (length run)) tt run (put_in-back (offset_of target) run)
+    (parent_of target) left d.0.0 put_there in
     let taken_again = subst (λ n. at (parent_of target) (take_out (offset_of target) n) made.0 ≡ Some (left, run)) long
     (subst (λ t. at (parent_of target) (take_out (offset_of target) (length run)) t ≡ Some (left, run)) tree take_again) in
-    let put_again = at-back (take_out (offset_of from) count) (put_in (offset_of from) run) run tt (take_out-back (offset_of from) count run) (parent_of from) items left taken in
+    let put_again = at-back (take_out (offset_of from) count) (put_in (offset_of from) run) run tt (take_out-back (offset_of from) count run)
+    (parent_of from) items left taken in
     let stood = at-also (put_in (offset_of from) run) (put_in (offset_of from) []) (also-empty (offset_of from) run) (parent_of from) left items tt put_again in
     let stays_there = subst (λ n. Is (room_at made.0 (put (parent_of target) (offset_of target) n from))) long
     (subst (λ t. Is (room_at t (put (parent_of target) (offset_of target) (length run) from))) tree

@@ -1,5 +1,7 @@
 -- A position that is in the tree is in it after items came in elsewhere.
-use Rattle.std.proofs.Common.{◌≡◌, ◌≢◌, ℕ, zero, suc, ◌+◌, ◌-◌, ◌<◌, ◌≤◌, inl, inr, Bool, true, false, nat_le, if◌then◌else◌, List, [], ◌∷◌, ◌++◌, length, take, drop, Option, Some, None, option_map, option_and_then, slice_get, slice_set, refl, sym, ap, ◌∙◌, subst, arith, length-append, length-take, length-set, append-nil}
+use Rattle.std.proofs.Common.{◌≡◌, ◌≢◌, ℕ, zero, suc, ◌+◌, ◌-◌, ◌<◌, ◌≤◌, inl, inr, Bool, true, false, nat_le, if◌then◌else◌, List, [], ◌∷◌, ◌++◌, length, take}
+use Rattle.std.proofs.Common.{drop, Option, Some, None, option_map, option_and_then, slice_get, slice_set, refl, sym, ap, ◌∙◌, subst, arith, length-append}
+use Rattle.std.proofs.Common.{length-take, length-set, append-nil}
 use Rattle.std.specs.Option.{option_map_or}
 use Rattle.std.proofs.lemmas.List.{take-append-drop}
 use Rattle.std.proofs.lemmas.Bool.Decides.{nat_tests}
@@ -19,11 +21,13 @@ Is {X} o = (x : X) × (o ≡ Some x)
 pub put_in-room : (offset : ℕ) (new xs : List Item) → offset ≤ length xs → Is (put_in offset new xs)
 put_in-room offset new xs room = (
   (take offset xs ++ ((new ++ take 0 (drop offset xs)) ++ drop (offset + 0) xs), tt),
-  ap (λ t. if t then Some (take offset xs ++ ((new ++ take 0 (drop offset xs)) ++ drop (offset + 0) xs), tt) else None) (most (offset + 0) (length xs) (omega arith)),
+  ap (λ t. if t then Some (take offset xs ++ ((new ++ take 0 (drop offset xs)) ++ drop (offset + 0) xs), tt) else None)
+      (most (offset + 0) (length xs) (omega arith)),
 )
 
 pub put_in-fits : (offset : ℕ) (new xs : List Item) → Is (put_in offset new xs) → offset ≤ length xs
-put_in-fits offset new xs h = (let r = replaced offset 0 (λ items. Some (new ++ items, tt)) xs h.0.0 tt h.1 in let room : offset + 0 ≤ length xs = r.room in omega arith)
+put_in-fits offset new xs h = (let r = replaced offset 0 (λ items. Some (new ++ items, tt)) xs h.0.0 tt h.1 in let room : offset + 0
+    ≤ length xs = r.room in omega arith)
 
 pub get-front : (a c : List Item) (i : ℕ) → i < length a → slice_get (a ++ c) i ≡ slice_get a i
 get-front [] c i less = absurd (omega arith)
@@ -66,7 +70,8 @@ get-before : (offset : ℕ) (new xs ys : List Item) (i : ℕ) → put_in offset 
 get-before offset new xs ys i e less =
     let p = parted offset new xs ys e in
     let within : i < length p.front = omega (arith, p.long) in
-    ap (λ zs. slice_get zs i) p.after ∙ get-front p.front (new ++ p.back) i within ∙ sym (ap (λ zs. slice_get zs i) p.before ∙ get-front p.front p.back i within)
+    ap (λ zs. slice_get zs i) p.after ∙ get-front p.front (new ++ p.back) i within
+    ∙ sym (ap (λ zs. slice_get zs i) p.before ∙ get-front p.front p.back i within)
 
 get-behind : (offset : ℕ) (new xs ys : List Item) (i : ℕ) → put_in offset new xs ≡ Some (ys, tt) → offset ≤ i → slice_get ys (i + length new) ≡ slice_get xs i
 get-behind offset new xs ys i e least =
@@ -74,7 +79,8 @@ get-behind offset new xs ys i e least =
     let first : length p.front ≤ i + length new = omega (arith, p.long) in
     let second : length new ≤ i + length new - length p.front = omega (arith, p.long) in
     let same : i + length new - length p.front - length new ≡ i - length p.front = omega (arith, p.long) in
-    ap (λ zs. slice_get zs (i + length new)) p.after ∙ get-back p.front (new ++ p.back) (i + length new) first ∙ get-back new p.back (i + length new - length p.front) second
+    ap (λ zs. slice_get zs (i + length new)) p.after ∙ get-back p.front (new ++ p.back) (i + length new) first
+    ∙ get-back new p.back (i + length new - length p.front) second
     ∙ ap (slice_get p.back) same ∙ sym (ap (λ zs. slice_get zs i) p.before ∙ get-back p.front p.back i (omega (arith, p.long)))
 
 pub get-other : (xs : List Item) (i j : ℕ) (x : Item) → i ≢ j → slice_get (slice_set xs i x) j ≡ slice_get xs j
@@ -85,7 +91,8 @@ get-other (y ∷ xs) (suc i) zero x differ = refl
 get-other (y ∷ xs) (suc i) (suc j) x differ = get-other xs i j x (λ e. differ (ap suc e))
 
 -- the change of the item at an index that is there
-pub at_index-is : {R : Type 0} (xs : List Item) (i : ℕ) (item : Item) (children : List Item) (change : Change R) → slice_get xs i ≡ Some item → inner item ≡ Some children → Is (change children) → Is (at_index i (in_item change) xs)
+pub at_index-is : {R : Type 0} (xs : List Item) (i : ℕ) (item : Item) (children : List Item) (change : Change R) → slice_get xs i ≡ Some item
+    → inner item ≡ Some children → Is (change children) → Is (at_index i (in_item change) xs)
 at_index-is {R = R} xs i item children change e f h = (
   (slice_set xs i (with_inner h.0.0 item), h.0.1),
   ap (option_and_then (λ item. option_map (λ (made : Item × R). (slice_set xs i made.0, made.1)) (in_item change item))) e
@@ -104,7 +111,8 @@ record Inside {R : Type 0} (xs : List Item) (i : ℕ) (change : Change R) (ys : 
   made : change children ≡ Some (new, r)
   whole : slice_set xs i (with_inner new item) ≡ ys
 
-inside : {R : Type 0} (xs : List Item) (i : ℕ) (change : Change R) (ys : List Item) (r : R) → at_index i (in_item change) xs ≡ Some (ys, r) → Inside xs i change ys r
+inside : {R : Type 0} (xs : List Item) (i : ℕ) (change : Change R) (ys : List Item) (r : R) → at_index i (in_item change) xs ≡ Some (ys, r)
+    → Inside xs i change ys r
 inside {R = R} xs i change ys r e =
     let a = then-some (λ item. option_map (λ (made : Item × R). (slice_set xs i made.0, made.1)) (in_item change item)) (slice_get xs i) (ys, r) e in
     let b = map-some (λ (made : Item × R). (slice_set xs i made.0, made.1)) (in_item change a.0) (ys, r) a.2 in
@@ -124,7 +132,8 @@ root-stands : (xs : List Item) → Is (room_at xs [])
 root-stands xs = put_in-room 0 [] xs (omega arith)
 
 -- a position that goes on below an item
-pub stands-below : (xs : List Item) (i : ℕ) (path : List ℕ) → path ≢ [] → room_at xs (i ∷ path) ≡ at_index i (in_item (at (parent_of path) (put_in (offset_of path) []))) xs
+pub stands-below : (xs : List Item) (i : ℕ) (path : List ℕ) → path ≢ [] → room_at xs (i ∷ path)
+    ≡ at_index i (in_item (at (parent_of path) (put_in (offset_of path) []))) xs
 stands-below xs i [] some = absurd (some refl)
 stands-below xs i (next ∷ path) some = refl
 
@@ -132,7 +141,8 @@ put-some : (parent : List ℕ) (offset count next : ℕ) (path : List ℕ) → p
 put-some [] offset count next path e = cc
 put-some (s ∷ parent) offset count next path e =
     elim (decide s next) [
-      | inl same ↦ (let f : s ∷ put parent offset count path ≡ [] = sym (within-same s parent path (rule_insert offset count to_next)) ∙ ap (λ v. put (s ∷ parent) offset count (v ∷ path)) same ∙ e in cc)
+      | inl same ↦ (let f : s ∷ put parent offset count path ≡ [] = sym (within-same s parent path (rule_insert offset count to_next))
+          ∙ ap (λ v. put (s ∷ parent) offset count (v ∷ path)) same ∙ e in cc)
       | inr apart ↦ (let f : next ∷ path ≡ [] = sym (within-other s next parent path (rule_insert offset count to_next) apart) ∙ e in cc)
     ]
 
@@ -140,7 +150,8 @@ put-some (s ∷ parent) offset count next path e =
 offset-stays : (s offset count o : ℕ) (parent : List ℕ) → put (s ∷ parent) offset count (o ∷ []) ≡ o ∷ []
 offset-stays s offset count o parent =
     elim (decide s o) [
-      | inl same ↦ ap (λ v. put (s ∷ parent) offset count (v ∷ [])) (sym same) ∙ within-same s parent [] (rule_insert offset count to_next) ∙ (λ t. same t ∷ none parent t)
+      | inl same ↦ ap (λ v. put (s ∷ parent) offset count (v ∷ [])) (sym same) ∙ within-same s parent [] (rule_insert offset count to_next)
+          ∙ (λ t. same t ∷ none parent t)
       | inr apart ↦ within-other s o parent [] (rule_insert offset count to_next) apart
     ]
   where
@@ -149,7 +160,8 @@ offset-stays s offset count o parent =
     none (x ∷ parent) = refl
 
 -- a position in the tree stays in it
-pub stays : (parent : List ℕ) (offset : ℕ) (new xs ys : List Item) (position : List ℕ) → at parent (put_in offset new) xs ≡ Some (ys, tt) → Is (room_at xs position)
+pub stays : (parent : List ℕ) (offset : ℕ) (new xs ys : List Item) (position : List ℕ) → at parent (put_in offset new) xs ≡ Some (ys, tt)
+    → Is (room_at xs position)
     → Is (room_at ys (put parent offset (length new) position))
 stays [] offset new xs ys [] e h = root-stands ys
 stays [] offset new xs ys (o ∷ []) e h =
@@ -163,7 +175,8 @@ stays [] offset new xs ys (i ∷ next ∷ path) e h =
     let a = inside xs i (at (parent_of (next ∷ path)) (put_in (offset_of (next ∷ path)) [])) h.0.0 tt h.1 in
     go (nat_le offset i) refl a.item a.children a.there a.here ((a.new, tt), a.made)
   where
-    go : (t : Bool) → t ≡ nat_le offset i → (item : Item) (children : List Item) → slice_get xs i ≡ Some item → inner item ≡ Some children → Is (at (parent_of (next ∷ path)) (put_in (offset_of (next ∷ path)) []) children)
+    go : (t : Bool) → t ≡ nat_le offset i → (item : Item) (children : List Item) → slice_get xs i ≡ Some item → inner item ≡ Some children
+        → Is (at (parent_of (next ∷ path)) (put_in (offset_of (next ∷ path)) []) children)
         → Is (room_at ys ((if t then i + length new else i) ∷ next ∷ path))
     go true t item children there here made =
         at_index-is ys (i + length new) item children (at (parent_of (next ∷ path)) (put_in (offset_of (next ∷ path)) []))
@@ -183,9 +196,12 @@ stays (s ∷ parent) offset new xs ys (i ∷ next ∷ path) e h =
       | inl same ↦ (let there : slice_get xs s ≡ Some b.item = ap (slice_get xs) same ∙ b.there in
           let one : b.item ≡ a.item = (let f : Some b.item ≡ Some a.item = sym there ∙ a.there in cc) in
           let kids : b.children ≡ a.children = (let f : Some b.children ≡ Some a.children = sym b.here ∙ ap inner one ∙ a.here in cc) in
-          let deep = stays parent offset new a.children a.new (next ∷ path) a.made ((b.new, tt), ap (at (parent_of (next ∷ path)) (put_in (offset_of (next ∷ path)) [])) (sym kids) ∙ b.made) in
+          let deep = stays parent offset new a.children a.new (next ∷ path) a.made
+          ((b.new, tt), ap (at (parent_of (next ∷ path)) (put_in (offset_of (next ∷ path)) [])) (sym kids) ∙ b.made) in
           let lower = put parent offset (length new) (next ∷ path) in
-          subst (λ p. Is (room_at ys p)) (sym (ap (λ v. put (s ∷ parent) offset (length new) (v ∷ next ∷ path)) (sym same) ∙ within-same s parent (next ∷ path) (rule_insert offset (length new) to_next)))
+          subst (λ p. Is (room_at ys p))
+          (sym (ap (λ v. put (s ∷ parent) offset (length new) (v ∷ next ∷ path)) (sym same)
+          ∙ within-same s parent (next ∷ path) (rule_insert offset (length new) to_next)))
           (subst Is (sym (stands-below ys s lower (put-some parent offset (length new) next path)))
           (at_index-is ys s (with_inner a.new a.item) a.new (at (parent_of lower) (put_in (offset_of lower) []))
           (ap (λ zs. slice_get zs s) (sym a.whole) ∙ get-set xs s a.item (with_inner a.new a.item) a.there)

@@ -16,11 +16,14 @@ check-true true fault u e = refl
 check-true false fault u e = absurd cc
 
 -- a step whose answer is known
-pub step : {A B : Type 0} (r : Result A Fault) (next : A → Result B Fault) (a : A) (answer : Result B Fault) → r ≡ Ok a → next a ≡ answer → (r >>= next) ≡ answer
+pub step : {A B : Type 0} (r : Result A Fault) (next : A → Result B Fault) (a : A) (answer : Result B Fault) → r ≡ Ok a → next a ≡ answer
+    → (r >>= next) ≡ answer
 step {A = A} r next a answer e f = ap (λ (r : Result A Fault). r >>= next) e ∙ f
 
-pub step-some : {A B : Type 0} (o : Option A) (fault : Fault) (next : A → Result B Fault) (a : A) (answer : Result B Fault) → o ≡ Some a → next a ≡ answer → (ok_or o fault >>= next) ≡ answer
+pub step-some : {A B : Type 0} (o : Option A) (fault : Fault) (next : A → Result B Fault) (a : A) (answer : Result B Fault) → o ≡ Some a
+    → next a ≡ answer → (ok_or o fault >>= next) ≡ answer
 step-some {A = A} o fault next a answer e f = ap (λ (o : Option A). ok_or o fault >>= next) e ∙ f
 
-pub step-check : {B : Type 0} (b : Bool) (fault : Fault) (next : Unit {0} → Result B Fault) (answer : Result B Fault) → b ≡ true → next tt ≡ answer → (check b fault >>= next) ≡ answer
+pub step-check : {B : Type 0} (b : Bool) (fault : Fault) (next : Unit {0} → Result B Fault) (answer : Result B Fault) → b ≡ true → next tt ≡ answer
+    → (check b fault >>= next) ≡ answer
 step-check b fault next answer e f = ap (λ b. check b fault >>= next) e ∙ f

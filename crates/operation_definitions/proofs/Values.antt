@@ -1,5 +1,6 @@
 -- The reversal of a change of attributes.
-use Rattle.std.proofs.Common.{◌≡◌, ℕ, zero, suc, ◌-◌, Bool, true, false, not, nat_eq, if◌then◌else◌, List, [], ◌∷◌, length, take, drop, Option, Some, None, option_map, ok_or, slice_get, slice_set, Result, Ok, refl, sym, ap, ◌∙◌, subst}
+use Rattle.std.proofs.Common.{◌≡◌, ℕ, zero, suc, ◌-◌, Bool, true, false, not, nat_eq, if◌then◌else◌, List, [], ◌∷◌, length, take, drop, Option, Some, None}
+use Rattle.std.proofs.Common.{option_map, ok_or, slice_get, slice_set, Result, Ok, refl, sym, ap, ◌∙◌, subst}
 use Rattle.std.specs.Option.{option_map_or}
 use Rattle.std.specs.Cmp.{signed_Decides}
 use Rattle.std.specs.Cmp.Lexicographic.{pointwise}
@@ -64,7 +65,8 @@ have-all : (key : List ℕ) (old : Option AttributeValue) (items : List Item) �
 have-all key old [] e = tt
 have-all key old (item ∷ items) e = go (same_value (value_of key (attributes_of item)) old) refl e (have-all key old items)
   where
-    go : (t : Bool) → t ≡ same_value (value_of key (attributes_of item)) old → (if not t then Some item else first_other key old items) ≡ None → (first_other key old items ≡ None → HaveAll key old items)
+    go : (t : Bool) → t ≡ same_value (value_of key (attributes_of item)) old → (if not t then Some item else first_other key old items) ≡ None
+        → (first_other key old items ≡ None → HaveAll key old items)
         → (value_of key (attributes_of item) ≡ old) × HaveAll key old items
     go true t e rest = (same_value-true (value_of key (attributes_of item)) old (sym t), rest e)
     go false t e rest = absurd cc
@@ -88,11 +90,13 @@ item-again : (key : List ℕ) (old new : Option AttributeValue) (item : Item) �
 item-again key old new (character scalar attributes) h g = ap (character scalar) (with_key-again key old new attributes h g)
 item-again key old new (element id name attributes children) h g = ap (λ a. element id name a children) (with_key-again key old new attributes h g)
 
-item-value : (key : List ℕ) (new : Option AttributeValue) (item : Item) → IsOrdered (attributes_of item) → value_of key (attributes_of (with_attributes (with_key key new (attributes_of item)) item)) ≡ new
+item-value : (key : List ℕ) (new : Option AttributeValue) (item : Item) → IsOrdered (attributes_of item)
+    → value_of key (attributes_of (with_attributes (with_key key new (attributes_of item)) item)) ≡ new
 item-value key new (character scalar attributes) h = with_key-value key new attributes h
 item-value key new (element id name attributes children) h = with_key-value key new attributes h
 
-given-again : (key : List ℕ) (old new : Option AttributeValue) (items : List Item) → KeysOrdered items → HaveAll key old items → given key old (given key new items) ≡ items
+given-again : (key : List ℕ) (old new : Option AttributeValue) (items : List Item) → KeysOrdered items → HaveAll key old items
+    → given key old (given key new items) ≡ items
 given-again key old new [] h g = refl
 given-again key old new (item ∷ items) h g = λ t. item-again key old new item h.0 g.0 t ∷ given-again key old new items h.1 g.1 t
 
@@ -122,14 +126,17 @@ take-keys zero items h = tt
 take-keys (suc n) [] h = tt
 take-keys (suc n) (item ∷ items) h = (item-keys item h.0, take-keys n items h.1)
 
-run-keys : (offset count : ℕ) (key : List ℕ) (new : Option AttributeValue) (path : List ℕ) (items made run : List Item) → AreOrdered items → at path (give offset count key new) items ≡ Some (made, run) → KeysOrdered run
+run-keys : (offset count : ℕ) (key : List ℕ) (new : Option AttributeValue) (path : List ℕ) (items made run : List Item) → AreOrdered items
+    → at path (give offset count key new) items ≡ Some (made, run) → KeysOrdered run
 run-keys offset count key new [] items made run h e =
     let r = replaced offset count (λ items. Some (given key new items, items)) items made run e in
-    let same : take count (drop offset items) ≡ run = ap (λ (o : Option (List Item × List Item)). option_map_or (λ (p : List Item × List Item). p.1) o []) r.gives in
+    let same : take count (drop offset items)
+    ≡ run = ap (λ (o : Option (List Item × List Item)). option_map_or (λ (p : List Item × List Item). p.1) o []) r.gives in
     subst KeysOrdered same (take-keys count (drop offset items) (drop-ordered offset items h))
 run-keys offset count key new (i ∷ path) items made run h e =
     let f = at path (give offset count key new) in
-    let a = then-some (λ item. option_map (λ (made : Item × List Item). (slice_set items i made.0, made.1)) (in_item f item)) (slice_get items i) (made, run) e in
+    let a = then-some (λ item. option_map (λ (made : Item × List Item). (slice_set items i made.0, made.1)) (in_item f item)) (slice_get items i)
+    (made, run) e in
     let b = map-some (λ (made : Item × List Item). (slice_set items i made.0, made.1)) (in_item f a.0) (made, run) a.2 in
     let c = then-some (λ inside. option_map (λ (made : List Item × List Item). (with_inner made.0 a.0, made.1)) (f inside)) (inner a.0) b.0 b.1 in
     let d = map-some (λ (made : List Item × List Item). (with_inner made.0 a.0, made.1)) (f c.0) b.0 c.2 in
@@ -137,7 +144,8 @@ run-keys offset count key new (i ∷ path) items made run h e =
     subst KeysOrdered gave (run-keys offset count key new path c.0 d.0.0 d.0.1 (below-ordered a.0 c.0 (get-ordered items i a.0 h a.1) c.1) d.1)
 
 -- a change of attributes is taken back
-pub attribute-reversed : (items : List Item) (cells : List (List Item)) (range : Range) (key : List ℕ) (old new : Option AttributeValue) (made : State) (cell : ℕ) → IsLimited items → AreOrdered items
+pub attribute-reversed : (items : List Item) (cells : List (List Item)) (range : Range) (key : List ℕ) (old new : Option AttributeValue) (made : State)
+    (cell : ℕ) → IsLimited items → AreOrdered items
     → effect items cells (attribute range key old new) ≡ Ok made → IsTakenBack items cells (attribute range key old new) made cell
 attribute-reversed items cells range key old new made cell limits ordered e =
     let path = parent_of range.start in
@@ -156,11 +164,13 @@ attribute-reversed items cells range key old new made cell limits ordered e =
     let keys = run-keys offset count key new path items b.0.0 run ordered there in
     let tree : b.0.0 ≡ made.0 = pair-first (b.0.0, cells) made c.2 in
     let same : cells ≡ made.1 = pair-second (b.0.0, cells) made c.2 in
-    let back = at-back (give offset count key new) (give offset count key old) run (given key new run) (give-back offset count key old new run keys all) path items made.0 (there ∙ (λ t. Some (tree t, run))) in
+    let back = at-back (give offset count key new) (give offset count key old) run (given key new run) (give-back offset count key old new run keys all)
+    path items made.0 (there ∙ (λ t. Some (tree t, run))) in
     let tail2 : List Item × List Item → Result State Fault = λ m. have_value key new m.1 >>= (λ _. Ok (m.0, made.1)) in
     let result : Result State Fault = Ok (items, made.1) in
     taken_back items cells (attribute range key old new) made cell limits made.1
     (step-check flat_test not_flat (λ _. ok_or (at path (give offset count key old) made.0) no_place >>= tail2) result flat
     (step-some (at path (give offset count key old) made.0) no_place tail2 (items, given key new run) result back
-    (step (have_value key new (given key new run)) (λ _. Ok (items, made.1)) tt result (ap (no_other key) (all-have key new (given key new run) (given-have key new run keys))) refl)))
+    (step (have_value key new (given key new run)) (λ _. Ok (items, made.1)) tt result
+    (ap (no_other key) (all-have key new (given key new run) (given-have key new run keys))) refl)))
     (λ k. ap (λ (cs : List (List Item)). in_cell_at cs k) (sym same))

@@ -1,5 +1,6 @@
 -- What an operation does to the items and the cells: its premises in order, each with its refusal, and its effect.
-use Rattle.std.specs.Prelude.{ℕ, ◌-◌, List, [], ◌∷◌, ◌++◌, length, get_or, set, find, nat_eq, Bool, true, false, not, ◌&&◌, nat_lt, nat_le, ◌==◌, if◌then◌else◌, Option, Some, None, ok_or, Result, Ok, Err}
+use Rattle.std.specs.Prelude.{ℕ, ◌-◌, List, [], ◌∷◌, ◌++◌, length, get_or, set, find, nat_eq, Bool, true, false, not, ◌&&◌, nat_lt, nat_le, ◌==◌, if◌then◌else◌}
+use Rattle.std.specs.Prelude.{Option, Some, None, ok_or, Result, Ok, Err}
 use Rattle.std.specs.Cmp.Lexicographic.{pointwise}
 use Rattle.std.specs.Ordering.{int_eq}
 use Rattle.ck_base.specs.declared.value.Value.{Value as AttributeValue}
@@ -10,7 +11,9 @@ use Rattle.item_definitions.specs.Children.{parent_of, offset_of, at}
 use Rattle.item_definitions.specs.Position.{not_after}
 use Rattle.item_definitions.specs.Shift.{carry_remove, forward}
 use Rattle.operation_definitions.specs.Level.{put_in, take_out, give, rename_at, split_at, merge_at}
-use Rattle.operation_definitions.specs.Operation.{in_tree, in_cell, fresh, from_cell, Operation, insert, move, attribute, rename, split, merge, marker, found_value, found_name, Fault, no_place, not_flat, into_itself, old_differs, not_neighbours, cell_state, too_large, too_deep}
+use Rattle.operation_definitions.specs.Operation.{in_tree, in_cell, fresh, from_cell, Operation, insert, move, attribute, rename, split, merge, marker}
+use Rattle.operation_definitions.specs.Operation.{found_value, found_name, Fault, no_place, not_flat, into_itself, old_differs, not_neighbours, cell_state}
+use Rattle.operation_definitions.specs.Operation.{too_large, too_deep}
 
 -- the most items under the root, at all depths
 abbrev pub most_items : ℕ
@@ -21,7 +24,6 @@ abbrev pub most_levels : ℕ
 most_levels = 64
 
 infixl 10 ◌>>=◌
-
 -- a step that may be refused, and what follows with its answer
 abbrev pub ◌>>=◌ : {A B : Type 0} → Result A Fault → (A → Result B Fault) → Result B Fault
 Ok x >>= next = next x

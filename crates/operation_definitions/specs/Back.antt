@@ -4,7 +4,8 @@ use Rattle.item_definitions.specs.Children.{parent_of}
 use Rattle.item_definitions.specs.Position.{behind}
 use Rattle.item_definitions.specs.Shift.{to_next, carry_insert, carry_remove}
 use Rattle.std.specs.Prelude.{length}
-use Rattle.operation_definitions.specs.Operation.{Place, in_tree, in_cell, Source, fresh, from_cell, Operation, insert, move, attribute, rename, split, merge, marker}
+use Rattle.operation_definitions.specs.Operation.{Place, in_tree, in_cell, Source, fresh, from_cell, Operation, insert, move, attribute, rename, split, merge}
+use Rattle.operation_definitions.specs.Operation.{marker}
 
 -- where the items of a move stand then: at the target, as the taking out leaves that
 abbrev pub moved_to : Place → ℕ → Place → Place

@@ -48,10 +48,8 @@ AreOrdered (item ∷ items) = IsItemOrdered item × AreOrdered items
 pub record IsTakenBack (items : List Item) (cells : List (List Item)) (operation : Operation) (made : List Item × List (List Item)) (cell : ℕ) : Type 0 where
   -- the cells after the reversal
   pub then_cells : List (List Item)
-
   -- the reversal gives the items from before
   pub reversed : after made.0 made.1 (back operation cell) ≡ Ok (items, then_cells)
-
   -- each cell has what it had, but for the one of what was put away
   pub kept : (number : ℕ) → in_cell_at then_cells number ≡ cell_then (put_away items operation) cells cell number
 

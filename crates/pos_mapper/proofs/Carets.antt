@@ -1,5 +1,6 @@
 -- What is left of the caret's position below a path, and the caret's place among the nodes there.
-use Rattle.std.proofs.Common.{◌≡◌, ℕ, zero, suc, ◌+◌, ◌≤◌, List, [], ◌∷◌, ◌++◌, length, Bool, true, false, ◌&&◌, ◌==◌, Option, Some, None, refl, sym, ap, ◌∙◌, append_assoc, arith}
+use Rattle.std.proofs.Common.{◌≡◌, ℕ, zero, suc, ◌+◌, ◌≤◌, List, [], ◌∷◌, ◌++◌, length, Bool, true, false, ◌&&◌, ◌==◌, Option, Some, None, refl, sym, ap, ◌∙◌}
+use Rattle.std.proofs.Common.{append_assoc, arith}
 use Rattle.std.proofs.lemmas.Bool.Decides.{nat_tests}
 use Rattle.std.specs.Prelude.{if◌then◌else◌, nat_le, slice_get}
 use Rattle.item_definitions.specs.Item.{Item, Items, Attributes, list_of}
@@ -31,7 +32,8 @@ here-is None offset = refl
 here-is (Some []) offset = refl
 here-is (Some (first ∷ rest)) offset = here-by (first == offset) rest
 
-here-only : (first offset : ℕ) (rest : List ℕ) (b : Bool) → first == offset ≡ b → is_here (if b then Some rest else None) ≡ true → Some (first ∷ rest) ≡ Some (offset ∷ [])
+here-only : (first offset : ℕ) (rest : List ℕ) (b : Bool) → first == offset ≡ b → is_here (if b then Some rest else None) ≡ true → Some (first ∷ rest)
+    ≡ Some (offset ∷ [])
 here-only first offset [] true t e = ap (λ n. Some (n ∷ [])) (first_same first offset t)
 here-only first offset (index ∷ rest) true t e = cc
 here-only first offset rest false t e = cc
@@ -50,7 +52,8 @@ below-is None index position = refl
 below-is (Some []) index position = refl
 below-is (Some (first ∷ rest)) index position = below-by (first == index) rest position
 
-below-only : (first index : ℕ) (rest left : List ℕ) (b : Bool) → first == index ≡ b → (if b then Some rest else None) ≡ Some left → Some (first ∷ rest) ≡ Some (index ∷ left)
+below-only : (first index : ℕ) (rest left : List ℕ) (b : Bool) → first == index ≡ b → (if b then Some rest else None) ≡ Some left → Some (first ∷ rest)
+    ≡ Some (index ∷ left)
 below-only first index rest left true t e =
     let same : rest ≡ left = cc in
     λ i. Some (first_same first index t i ∷ same i)
@@ -67,7 +70,8 @@ pub record CaretBelow (scene : Scene) (parent path : List ℕ) (list : List Item
   pub at : (first : ℕ) (rest : List ℕ) → caret ≡ Some (first ∷ rest) → place ≡ place_in scene parent path list (first ∷ rest)
 
 -- so it is in the element at an index
-pub caret-inside : (scene : Scene) (parent path : List ℕ) (list : List Item) (caret : Option (List ℕ)) (place : List ℕ) (index id : ℕ) (name : List ℕ) (attributes : Attributes) (children : Items)
+pub caret-inside : (scene : Scene) (parent path : List ℕ) (list : List Item) (caret : Option (List ℕ)) (place : List ℕ) (index id : ℕ) (name : List ℕ)
+    (attributes : Attributes) (children : Items)
     → slice_get list index ≡ Some (items.element id name attributes children) → CaretBelow scene parent path list caret place
     → CaretBelow scene name (path ++ index ∷ []) (list_of children) (below_index index caret) place
 caret-inside scene parent path list caret place index id name attributes children e c = record {
@@ -81,7 +85,8 @@ caret-inside scene parent path list caret place index id name attributes childre
 
 -- ---- the caret's place
 
-index-within : (inners : Inners) (offset : ℕ) (list : List ViewNode) (index : ℕ) (rest position : List ℕ) → meant_in inners offset (nodes_of list) (index ∷ rest) ≡ Some position → index ≤ length list
+index-within : (inners : Inners) (offset : ℕ) (list : List ViewNode) (index : ℕ) (rest position : List ℕ)
+    → meant_in inners offset (nodes_of list) (index ∷ rest) ≡ Some position → index ≤ length list
 index-within inners offset list zero rest position e = omega arith
 index-within inners offset [] (suc index) rest position e = cc
 index-within inners offset (node ∷ list) (suc index) rest position e =
@@ -96,7 +101,8 @@ is_within : (x y : ℕ) → x ≤ y → nat_le x y ≡ true
 is_within x y h = grind (arith, nat_tests)
 
 -- a place that means a position is among the nodes
-pub caret-fits : (inners : Inners) (offset : ℕ) (list : List ViewNode) (base : ℕ) (place position : List ℕ) → meant_in inners offset (nodes_of list) place ≡ Some position → caret_among place list base ≡ shift base place
+pub caret-fits : (inners : Inners) (offset : ℕ) (list : List ViewNode) (base : ℕ) (place position : List ℕ)
+    → meant_in inners offset (nodes_of list) place ≡ Some position → caret_among place list base ≡ shift base place
 caret-fits inners offset list base [] position e = absurd (no-place inners offset list position e)
 caret-fits inners offset list base (index ∷ rest) position e =
     ap (λ b. if b then (base + index) ∷ rest else []) (is_within index (length list) (index-within inners offset list index rest position e))

@@ -1,5 +1,6 @@
 -- A place in a shape whose slot holds some nodes is one in these nodes.
-use Rattle.std.proofs.Common.{◌≡◌, ℕ, ◌+◌, ◌-◌, ◌≤◌, List, [], ◌∷◌, ◌++◌, length, take, drop, true, false, Option, Some, None, option_map, option_and_then, append_assoc, length-append, refl, sym, ap, ◌∙◌, subst, arith}
+use Rattle.std.proofs.Common.{◌≡◌, ℕ, ◌+◌, ◌-◌, ◌≤◌, List, [], ◌∷◌, ◌++◌, length, take, drop, true, false, Option, Some, None, option_map, option_and_then}
+use Rattle.std.proofs.Common.{append_assoc, length-append, refl, sym, ap, ◌∙◌, subst, arith}
 use Rattle.std.proofs.lemmas.Bool.Decides.{nat_tests}
 use Rattle.std.specs.Prelude.{slice_get, if◌then◌else◌, nat_le, ◌==◌}
 use Rattle.std.specs.Option.{option_or}
@@ -28,7 +29,8 @@ take-front [] back = refl
 take-front (first ∷ front) back = ap (λ list. first ∷ list) (take-front front back)
 
 -- the content is what stands between the nodes before and behind it
-pub content-between : (front content back : List ViewNode) (base behind : ℕ) → base ≡ length front → behind ≡ length back → content_of base behind (front ++ (content ++ back)) ≡ content
+pub content-between : (front content back : List ViewNode) (base behind : ℕ) → base ≡ length front → behind ≡ length back
+    → content_of base behind (front ++ (content ++ back)) ≡ content
 content-between front content back base behind b e =
     let all : length (front ++ (content ++ back)) ≡ length front + (length content + length back) =
     (length-append front (content ++ back) ∙ ap (λ n. length front + n) (length-append content back)) in
@@ -68,7 +70,8 @@ mutual
   none-among index (more form forms) e = go (slot_in form) refl e (none-in form) (none-among (index + 1) forms)
     where
       go : (o : Option (List ℕ)) → slot_in form ≡ o → option_or (option_map (λ place. index ∷ place) o) (slot_among (index + 1) forms) ≡ None
-          → (slot_in form ≡ None → slot_count form ≡ 0) → (slot_among (index + 1) forms ≡ None → inner_slots forms ≡ 0) → slot_count form + inner_slots forms ≡ 0
+          → (slot_in form ≡ None → slot_count form ≡ 0) → (slot_among (index + 1) forms ≡ None → inner_slots forms ≡ 0)
+          → slot_count form + inner_slots forms ≡ 0
       go None f g one rest = (let a : slot_count form ≡ 0 = one f in let b : inner_slots forms ≡ 0 = rest g in omega (arith, a, b))
       go (Some place) f g one rest = cc
 
@@ -84,7 +87,8 @@ mutual
   some-among index (more form forms) place e = go (slot_in form) refl e (some-in form) (some-among (index + 1) forms place)
     where
       go : (o : Option (List ℕ)) → slot_in form ≡ o → option_or (option_map (λ place. index ∷ place) o) (slot_among (index + 1) forms) ≡ Some place
-          → ((place : List ℕ) → slot_in form ≡ Some place → 1 ≤ slot_count form) → (slot_among (index + 1) forms ≡ Some place → 1 ≤ inner_slots forms) → 1 ≤ slot_count form + inner_slots forms
+          → ((place : List ℕ) → slot_in form ≡ Some place → 1 ≤ slot_count form) → (slot_among (index + 1) forms ≡ Some place → 1 ≤ inner_slots forms)
+          → 1 ≤ slot_count form + inner_slots forms
       go None f g one rest = (let b : 1 ≤ inner_slots forms = rest g in omega (arith, b))
       go (Some inner) f g one rest = (let a : 1 ≤ slot_count form = one inner f in omega (arith, a))
 
@@ -93,7 +97,8 @@ pub never : (index : ℕ) (forms : Forms ViewAttributes) → slot_among index fo
 never index none e = cc
 never index (more form forms) e = go (slot_in form) e (never (index + 1) forms)
   where
-    go : (o : Option (List ℕ)) → option_or (option_map (λ place. index ∷ place) o) (slot_among (index + 1) forms) ≡ Some [] → (slot_among (index + 1) forms ≡ Some [] → ⊥) → ⊥
+    go : (o : Option (List ℕ)) → option_or (option_map (λ place. index ∷ place) o) (slot_among (index + 1) forms) ≡ Some []
+        → (slot_among (index + 1) forms ≡ Some [] → ⊥) → ⊥
     go None g rest = rest g
     go (Some place) g rest = cc
 
@@ -109,34 +114,49 @@ module _ (slots : Slots) (depth : ℕ) (content : List ViewNode) (means : List �
   in_list : (front back : List ViewNode) (base behind : ℕ) → base ≡ length front → behind ≡ length back → (path : List ℕ) (last : ℕ)
       → read slots depth (base ∷ []) behind 0 (front ++ (content ++ back)) path last ≡ option_and_then means (out_of_slot (base ∷ []) (path ++ last ∷ []))
   in_list front back base behind b e [] last =
-      elim (nat_le base last) as (λ t. (if t then between_nodes 0 (content_of base behind (front ++ (content ++ back))) (last - base) else None) ≡ option_and_then means (if t then Some ((last - base) ∷ []) else None)) [
+      elim (nat_le base last) as (λ t. (if t then between_nodes 0 (content_of base behind (front ++ (content ++ back))) (last - base) else None)
+      ≡ option_and_then means (if t then Some ((last - base) ∷ []) else None)) [
         | true ↦ ap (λ list. between_nodes 0 list (last - base)) (content-between front content back base behind b e) ∙ reads [] (last - base)
         | false ↦ refl
       ]
   in_list front back base behind b e (index ∷ path) last =
-      elim (nat_le base index) as (λ t. (if t then in_nodes slots (λ levels further more start inner. read slots levels further more start inner path last) depth path last 0 (content_of base behind (front ++ (content ++ back))) (index - base) else None) ≡ option_and_then means (if t then Some ((index - base) ∷ (path ++ last ∷ [])) else None)) [
-        | true ↦ ap (λ list. in_nodes slots (λ levels further more start inner. read slots levels further more start inner path last) depth path last 0 list (index - base)) (content-between front content back base behind b e)
+      elim (nat_le base index) as (λ t. (if t
+      then in_nodes slots (λ levels further more start inner. read slots levels further more start inner path last) depth path last 0
+      (content_of base behind (front ++ (content ++ back))) (index - base) else None)
+      ≡ option_and_then means (if t then Some ((index - base) ∷ (path ++ last ∷ [])) else None)) [
+        | true ↦ ap (λ list. in_nodes slots (λ levels further more start inner. read slots levels further more start inner path last) depth path last 0
+            list (index - base)) (content-between front content back base behind b e)
             ∙ reads ((index - base) ∷ path) last
         | false ↦ refl
       ]
 
   -- one step on the way
   one_step : (front back : List ViewNode) (kids : List ViewNode) (head : nodes.Head) (base next : ℕ) (way : List ℕ) (behind : ℕ) → base ≡ length front
-      → ((path : List ℕ) (last : ℕ) → read slots depth (next ∷ way) behind 0 kids path last ≡ option_and_then means (out_of_slot (next ∷ way) (path ++ last ∷ [])))
+      → ((path : List ℕ) (last : ℕ) → read slots depth (next ∷ way) behind 0 kids path last
+      ≡ option_and_then means (out_of_slot (next ∷ way) (path ++ last ∷ [])))
       → (path : List ℕ) (last : ℕ)
-      → read slots depth (base ∷ next ∷ way) behind 0 (front ++ nodes.element head (nodes_of kids) ∷ back) path last ≡ option_and_then means (out_of_slot (base ∷ next ∷ way) (path ++ last ∷ []))
+      → read slots depth (base ∷ next ∷ way) behind 0 (front ++ nodes.element head (nodes_of kids) ∷ back) path last
+      ≡ option_and_then means (out_of_slot (base ∷ next ∷ way) (path ++ last ∷ []))
   one_step front back kids head base next way behind b ih [] last =
-      elim (base == last) as (λ t. base == last ≡ t → (if t then option_and_then (λ node. option_and_then (λ inner. None) (children_of node)) (slice_get (front ++ nodes.element head (nodes_of kids) ∷ back) last) else None) ≡ option_and_then means (if t then out_of_slot (next ∷ way) [] else None)) [
+      elim (base == last) as (λ t. base == last ≡ t
+      → (if t then option_and_then (λ node. option_and_then (λ inner. None) (children_of node))
+      (slice_get (front ++ nodes.element head (nodes_of kids) ∷ back) last) else None)
+      ≡ option_and_then means (if t then out_of_slot (next ∷ way) [] else None)) [
         | true ↦ λ t.
             let same : last ≡ length front = (let k : base ≡ last = is_same base last t in sym k ∙ b) in
-            ap (option_and_then (λ node. option_and_then (λ inner. None) (children_of node))) (ap (slice_get (front ++ nodes.element head (nodes_of kids) ∷ back)) same ∙ get-behind front _ back)
+            ap (option_and_then (λ node. option_and_then (λ inner. None) (children_of node)))
+            (ap (slice_get (front ++ nodes.element head (nodes_of kids) ∷ back)) same ∙ get-behind front _ back)
         | false ↦ λ t. refl
       ] refl
   one_step front back kids head base next way behind b ih (index ∷ path) last =
-      elim (base == index) as (λ t. base == index ≡ t → (if t then option_and_then (λ node. option_and_then (λ inner. read slots depth (next ∷ way) behind 0 inner path last) (children_of node)) (slice_get (front ++ nodes.element head (nodes_of kids) ∷ back) index) else None) ≡ option_and_then means (if t then out_of_slot (next ∷ way) (path ++ last ∷ []) else None)) [
+      elim (base == index) as (λ t. base == index ≡ t
+      → (if t then option_and_then (λ node. option_and_then (λ inner. read slots depth (next ∷ way) behind 0 inner path last) (children_of node))
+      (slice_get (front ++ nodes.element head (nodes_of kids) ∷ back) index) else None)
+      ≡ option_and_then means (if t then out_of_slot (next ∷ way) (path ++ last ∷ []) else None)) [
         | true ↦ λ t.
             let same : index ≡ length front = (let k : base ≡ index = is_same base index t in sym k ∙ b) in
-            ap (option_and_then (λ node. option_and_then (λ inner. read slots depth (next ∷ way) behind 0 inner path last) (children_of node))) (ap (slice_get (front ++ nodes.element head (nodes_of kids) ∷ back)) same ∙ get-behind front _ back)
+            ap (option_and_then (λ node. option_and_then (λ inner. read slots depth (next ∷ way) behind 0 inner path last) (children_of node)))
+            (ap (slice_get (front ++ nodes.element head (nodes_of kids) ∷ back)) same ∙ get-behind front _ back)
             ∙ ap (λ inner. read slots depth (next ∷ way) behind 0 inner path last) (list_of-nodes_of kids)
             ∙ ih path last
         | false ↦ λ t. refl
@@ -145,27 +165,34 @@ module _ (slots : Slots) (depth : ℕ) (content : List ViewNode) (means : List �
   -- a place among the nodes of these shapes is one in the content
   abbrev Among : Forms ViewAttributes → Type 0
   Among forms =
-      (front : List ViewNode) (index : ℕ) (way : List ℕ) → index ≡ length front → slot_among index forms ≡ Some way → inner_slots forms ≤ 1 → (path : List ℕ) (last : ℕ)
-      → read slots depth way (behind_among forms) 0 (front ++ filled_inner content forms) path last ≡ option_and_then means (out_of_slot way (path ++ last ∷ []))
+      (front : List ViewNode) (index : ℕ) (way : List ℕ) → index ≡ length front → slot_among index forms ≡ Some way → inner_slots forms ≤ 1
+      → (path : List ℕ) (last : ℕ)
+      → read slots depth way (behind_among forms) 0 (front ++ filled_inner content forms) path last
+      ≡ option_and_then means (out_of_slot way (path ++ last ∷ []))
 
   mutual
     pub among : (forms : Forms ViewAttributes) → Among forms
     among none front index way b e c path last = cc
     among (more form forms) front index way b e c path last = among-first form forms (among forms) front index way (slot_in form) refl b e c path last
 
-    among-first : (form : Form ViewAttributes) (forms : Forms ViewAttributes) → Among forms → (front : List ViewNode) (index : ℕ) (way : List ℕ) (o : Option (List ℕ)) → slot_in form ≡ o → index ≡ length front
-        → option_or (option_map (λ place. index ∷ place) o) (slot_among (index + 1) forms) ≡ Some way → slot_count form + inner_slots forms ≤ 1 → (path : List ℕ) (last : ℕ)
-        → read slots depth way (by_slot o (behind_among forms) (length (list_of forms)) (behind_slot form)) 0 (front ++ (filled content form ++ filled_inner content forms)) path last
+    among-first : (form : Form ViewAttributes) (forms : Forms ViewAttributes) → Among forms
+        → (front : List ViewNode) (index : ℕ) (way : List ℕ) (o : Option (List ℕ)) → slot_in form ≡ o → index ≡ length front
+        → option_or (option_map (λ place. index ∷ place) o) (slot_among (index + 1) forms) ≡ Some way → slot_count form + inner_slots forms ≤ 1
+        → (path : List ℕ) (last : ℕ)
+        → read slots depth way (by_slot o (behind_among forms) (length (list_of forms)) (behind_slot form)) 0
+        (front ++ (filled content form ++ filled_inner content forms)) path last
         ≡ option_and_then means (out_of_slot way (path ++ last ∷ []))
     among-first form forms rest front index way None f b e c path last =
         let one : length (filled content form) ≡ 1 = one-node content form (none-in form f) in
-        let next : index + 1 ≡ length (front ++ filled content form) = (let l : length (front ++ filled content form) ≡ length front + length (filled content form) = length-append front (filled content form) in omega (arith, l, one, b)) in
+        let next : index + 1 ≡ length (front ++ filled content form) = (let l : length (front ++ filled content form)
+        ≡ length front + length (filled content form) = length-append front (filled content form) in omega (arith, l, one, b)) in
         ap (λ list. read slots depth way (behind_among forms) 0 list path last) (sym (append_assoc front (filled content form) (filled_inner content forms)))
         ∙ rest (front ++ filled content form) (index + 1) way next e (omega (arith, c)) path last
     among-first slot forms rest front index way (Some []) f b e c path last =
         let same : index ∷ [] ≡ way = cc in
         let none_behind : inner_slots forms ≡ 0 = omega (arith, c) in
-        subst (λ w. read slots depth w (length (list_of forms)) 0 (front ++ (content ++ filled_inner content forms)) path last ≡ option_and_then means (out_of_slot w (path ++ last ∷ []))) same
+        subst (λ w. read slots depth w (length (list_of forms)) 0 (front ++ (content ++ filled_inner content forms)) path last
+        ≡ option_and_then means (out_of_slot w (path ++ last ∷ []))) same
         (in_list front (filled_inner content forms) index (length (list_of forms)) b (sym (all-nodes content forms none_behind)) path last)
     among-first (text scalars) forms rest front index way (Some []) f b e c path last = cc
     among-first (element kind name attributes children) forms rest front index way (Some []) f b e c path last = absurd (never 0 children f)
@@ -173,6 +200,8 @@ module _ (slots : Slots) (depth : ℕ) (content : List ViewNode) (means : List �
     among-first (text scalars) forms rest front index way (Some (next ∷ place)) f b e c path last = cc
     among-first (element kind name attributes children) forms rest front index way (Some (next ∷ place)) f b e c path last =
         let same : index ∷ next ∷ place ≡ way = cc in
-        subst (λ w. read slots depth w (behind_among children) 0 (front ++ nodes.element (head_of kind name attributes) (nodes_of (filled_inner content children)) ∷ filled_inner content forms) path last ≡ option_and_then means (out_of_slot w (path ++ last ∷ []))) same
+        subst (λ w. read slots depth w (behind_among children) 0
+        (front ++ nodes.element (head_of kind name attributes) (nodes_of (filled_inner content children)) ∷ filled_inner content forms) path last
+        ≡ option_and_then means (out_of_slot w (path ++ last ∷ []))) same
         (one_step front (filled_inner content forms) (filled_inner content children) (head_of kind name attributes) index next place (behind_among children) b
         (among children [] 0 (next ∷ place) refl f (omega (arith, c))) path last)

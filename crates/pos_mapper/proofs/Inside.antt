@@ -1,5 +1,6 @@
 -- The nodes in the slot of a shape are those that it was filled with, and the way there leads to them.
-use Rattle.std.proofs.Common.{◌≡◌, ℕ, ◌+◌, ◌≤◌, List, [], ◌∷◌, ◌++◌, length, Option, Some, None, option_map, option_and_then, append_assoc, length-append, refl, sym, ap, ◌∙◌, subst, arith}
+use Rattle.std.proofs.Common.{◌≡◌, ℕ, ◌+◌, ◌≤◌, List, [], ◌∷◌, ◌++◌, length, Option, Some, None, option_map, option_and_then, append_assoc, length-append, refl}
+use Rattle.std.proofs.Common.{sym, ap, ◌∙◌, subst, arith}
 use Rattle.std.specs.Prelude.{slice_get, true}
 use Rattle.std.specs.Option.{option_or}
 use Rattle.view_definitions.specs.Node.{ViewAttributes, ViewNode, children_of, nodes_of}
@@ -41,12 +42,15 @@ module _ (content : List ViewNode) where
     inside-among none front index way b e c = cc
     inside-among (more form forms) front index way b e c = among-first form forms (inside-among forms) front index way (slot_in form) refl b e c
 
-    among-first : (form : Form ViewAttributes) (forms : Forms ViewAttributes) → Among forms → (front : List ViewNode) (index : ℕ) (way : List ℕ) (o : Option (List ℕ)) → slot_in form ≡ o → index ≡ length front
+    among-first : (form : Form ViewAttributes) (forms : Forms ViewAttributes) → Among forms
+        → (front : List ViewNode) (index : ℕ) (way : List ℕ) (o : Option (List ℕ)) → slot_in form ≡ o → index ≡ length front
         → option_or (option_map (λ place. index ∷ place) o) (slot_among (index + 1) forms) ≡ Some way → slot_count form + inner_slots forms ≤ 1
-        → inside way (by_slot o (behind_among forms) (length (list_of forms)) (behind_slot form)) (front ++ (filled content form ++ filled_inner content forms)) ≡ Some content
+        → inside way (by_slot o (behind_among forms) (length (list_of forms)) (behind_slot form))
+        (front ++ (filled content form ++ filled_inner content forms)) ≡ Some content
     among-first form forms rest front index way None f b e c =
         let one : length (filled content form) ≡ 1 = one-node content form (none-in form f) in
-        let next : index + 1 ≡ length (front ++ filled content form) = (let l : length (front ++ filled content form) ≡ length front + length (filled content form) = length-append front (filled content form) in omega (arith, l, one, b)) in
+        let next : index + 1 ≡ length (front ++ filled content form) = (let l : length (front ++ filled content form)
+        ≡ length front + length (filled content form) = length-append front (filled content form) in omega (arith, l, one, b)) in
         ap (inside way (behind_among forms)) (sym (append_assoc front (filled content form) (filled_inner content forms)))
         ∙ rest (front ++ filled content form) (index + 1) way next e (omega (arith, c))
     among-first slot forms rest front index way (Some []) f b e c =
@@ -60,7 +64,8 @@ module _ (content : List ViewNode) where
     among-first (text scalars) forms rest front index way (Some (next ∷ place)) f b e c = cc
     among-first (element kind name attributes children) forms rest front index way (Some (next ∷ place)) f b e c =
         let same : index ∷ next ∷ place ≡ way = cc in
-        subst (λ w. inside w (behind_among children) (front ++ nodes.element (head_of kind name attributes) (nodes_of (filled_inner content children)) ∷ filled_inner content forms) ≡ Some content) same
+        subst (λ w. inside w (behind_among children) (front ++ nodes.element (head_of kind name attributes) (nodes_of (filled_inner content children))
+        ∷ filled_inner content forms) ≡ Some content) same
         (one-step front (filled_inner content forms) (filled_inner content children) (head_of kind name attributes) index next place (behind_among children) b
         ∙ inside-among children [] 0 (next ∷ place) refl f (omega (arith, c)))
 
@@ -69,7 +74,8 @@ pub inside-shape : (made : Converted) (number : Option ℕ) (row : List Entry) (
     → inside way (behind_slot made.form) (inner_of (element_node number made row)) ≡ Some (nest row)
 inside-shape made number row way e f = go made.form e f
   where
-    go : (form : Form ViewAttributes) → is_shape form ≡ true → slot_in form ≡ Some way → inside way (behind_slot form) (inner_of (element_node number (record made { form = form }) row)) ≡ Some (nest row)
+    go : (form : Form ViewAttributes) → is_shape form ≡ true → slot_in form ≡ Some way
+        → inside way (behind_slot form) (inner_of (element_node number (record made { form = form }) row)) ≡ Some (nest row)
     go slot e f = cc
     go (text scalars) e f = cc
     go (element kind name attributes children) e f =
@@ -85,7 +91,8 @@ pub slot-of-node : (slots : Slots) (made : Converted) (number : Option ℕ) (row
     → slot_at slots (Some (element_node number made row)) ≡ option_and_then slots number
 slot-of-node slots made number row e = go made.form e
   where
-    go : (form : Form ViewAttributes) → is_outermost form ≡ true → slot_at slots (Some (element_node number (record made { form = form }) row)) ≡ option_and_then slots number
+    go : (form : Form ViewAttributes) → is_outermost form ≡ true → slot_at slots (Some (element_node number (record made { form = form }) row))
+        ≡ option_and_then slots number
     go slot e = cc
     go (text scalars) e = cc
     go (element kind name attributes children) e = refl

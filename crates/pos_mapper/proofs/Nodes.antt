@@ -1,5 +1,6 @@
 -- What nodes are made of, and how many items they show.
-use Rattle.std.proofs.Common.{◌≡◌, ℕ, zero, suc, ◌+◌, ◌-◌, ◌^◌, ◌<◌, ◌≤◌, min, max, List, [], ◌∷◌, length, drop, Option, Some, None, option_map, option_and_then, append_assoc, ◌++◌, refl, sym, ap, ◌∙◌, get_or, arith}
+use Rattle.std.proofs.Common.{◌≡◌, ℕ, zero, suc, ◌+◌, ◌-◌, ◌^◌, ◌<◌, ◌≤◌, min, max, List, [], ◌∷◌, length, drop, Option, Some, None, option_map}
+use Rattle.std.proofs.Common.{option_and_then, append_assoc, ◌++◌, refl, sym, ap, ◌∙◌, get_or, arith}
 use Rattle.std.proofs.lemmas.Bool.Decides.{nat_tests}
 use Rattle.view_definitions.specs.Node.{Kind, ViewNode, ViewNodes, text, element, none, more, list_of, nodes_of, children_of, node_depth, inner_depth, depth_of}
 use Rattle.view_tree.specs.Changes.{node_text, number_of}
@@ -46,13 +47,15 @@ list_depth (element head kids) children e =
     omega (arith, ap depth_of same, depth_of-list_of kids)
 
 -- a node of a list is no deeper than the list
-pub read_depth : (nodes : List ViewNode) (index : ℕ) (node : ViewNode) → index < length nodes → node ≡ get_or nodes index node → node_depth node ≤ depth_of nodes
+pub read_depth : (nodes : List ViewNode) (index : ℕ) (node : ViewNode) → index < length nodes → node ≡ get_or nodes index node
+    → node_depth node ≤ depth_of nodes
 read_depth [] index node w e = absurd (omega (arith, w))
 read_depth (first ∷ nodes) zero node w e = omega (arith, ap node_depth e)
 read_depth (first ∷ nodes) (suc index) node w e = omega (arith, read_depth nodes index node (omega (arith, w)) e)
 
 -- a sum over all nodes
-pub all_summed : (nodes : List ViewNode) (index sum most : ℕ) → index ≤ length nodes → length nodes ≤ index → min (sum + lengths (drop index nodes)) most ≡ min (lengths nodes) most → sum ≤ most
+pub all_summed : (nodes : List ViewNode) (index sum most : ℕ) → index ≤ length nodes → length nodes ≤ index
+    → min (sum + lengths (drop index nodes)) most ≡ min (lengths nodes) most → sum ≤ most
     → sum ≡ min (lengths nodes) most
 all_summed nodes index sum most within not_below total small =
     let end : index ≡ length nodes = omega (arith, within, not_below) in
@@ -61,15 +64,18 @@ all_summed nodes index sum most within not_below total small =
     omega (arith, total, zero_left, small)
 
 -- a place in a text
-pub in_a_text : (slots : Slots) (below : Below) (depth : ℕ) (path : List ℕ) (last offset : ℕ) (node : ViewNode) (scalars : List ℕ) → Some scalars ≡ node_text node
+pub in_a_text : (slots : Slots) (below : Below) (depth : ℕ) (path : List ℕ) (last offset : ℕ) (node : ViewNode) (scalars : List ℕ)
+    → Some scalars ≡ node_text node
     → in_node slots below depth path last offset node ≡ in_text offset (length scalars) path last
 in_a_text slots below depth path last offset (text own) scalars e = (let same : own ≡ scalars = cc in ap (λ list. in_text offset (length list) path last) same)
 in_a_text slots below depth path last offset (element head children) scalars e = cc
 
 -- a place in an element, by its kind, its number and its children
-pub in_element : (slots : Slots) (below : Below) (depth : ℕ) (path : List ℕ) (last offset : ℕ) (node : ViewNode) (kind : Kind) (number : Option ℕ) (children : List ViewNode)
+pub in_element : (slots : Slots) (below : Below) (depth : ℕ) (path : List ℕ) (last offset : ℕ) (node : ViewNode) (kind : Kind) (number : Option ℕ)
+    (children : List ViewNode)
     → Some kind ≡ node_kind node → number ≡ number_of node → Some children ≡ children_of node
-    → in_node slots below depth path last offset node ≡ by_kind kind (below depth [] 0 offset children) (in_slot below depth offset children (option_and_then slots number))
+    → in_node slots below depth path last offset node
+    ≡ by_kind kind (below depth [] 0 offset children) (in_slot below depth offset children (option_and_then slots number))
 in_element slots below depth path last offset (text own) kind number children k n c = cc
 in_element slots below depth path last offset (element head kids) kind number children k n c =
     let same : children ≡ list_of kids = cc in
@@ -78,7 +84,8 @@ in_element slots below depth path last offset (element head kids) kind number ch
 
 -- a position in an item, behind what is made
 pub one_deeper : (made : List ℕ) (offset : ℕ) (inner : Option (List ℕ))
-    → option_map (λ position. (made ++ offset ∷ []) ++ position) inner ≡ option_map (λ position. made ++ position) (option_map (λ position. offset ∷ position) inner)
+    → option_map (λ position. (made ++ offset ∷ []) ++ position) inner
+    ≡ option_map (λ position. made ++ position) (option_map (λ position. offset ∷ position) inner)
 one_deeper made offset None = refl
 one_deeper made offset (Some position) = ap Some (append_assoc made (offset ∷ []) position)
 

@@ -1,9 +1,11 @@
 -- Where nodes show a position doesn't hang on the numbers and counts of changes in them.
-use Rattle.std.proofs.Common.{◌≡◌, ℕ, zero, suc, ◌+◌, ◌-◌, List, [], ◌∷◌, ◌++◌, length, Bool, true, false, Option, Some, None, option_map, option_and_then, refl, sym, ap, ◌∙◌}
+use Rattle.std.proofs.Common.{◌≡◌, ℕ, zero, suc, ◌+◌, ◌-◌, List, [], ◌∷◌, ◌++◌, length, Bool, true, false, Option, Some, None, option_map, option_and_then}
+use Rattle.std.proofs.Common.{refl, sym, ap, ◌∙◌}
 use Rattle.std.proofs.lemmas.List.{length-map}
 use Rattle.std.specs.Prelude.{slice_get, nat_lt, nat_le, if◌then◌else◌}
 use Rattle.item_definitions.specs.Item.{Items}
-use Rattle.view_definitions.specs.Node.{Kind, container, attribute, empty, ui, ViewNode, ViewNodes, text, element, none, more, list_of, nodes_of, children_of, plain_head, plain_node, plain_nodes, content}
+use Rattle.view_definitions.specs.Node.{Kind, container, attribute, empty, ui, ViewNode, ViewNodes, text, element, none, more, list_of, nodes_of, children_of}
+use Rattle.view_definitions.specs.Node.{plain_head, plain_node, plain_nodes, content}
 use Rattle.view_definitions.specs.Row.{nest}
 use Rattle.downcast_definitions.specs.Scene.{Numbers, unnumbered, Scene}
 use Rattle.downcast_definitions.specs.Rows.{inner_row}
@@ -31,11 +33,14 @@ mutual
   place-in-plain further (text scalars) number = refl
   place-in-plain further (element head children) number = ap (λ inner. by_around head.kind inner []) (place-plain further children number 0)
 
-  pub place-plain : (further : ℕ) (nodes : ViewNodes) (number base : ℕ) → place_among further (plain_nodes nodes) number base ≡ place_among further nodes number base
+  pub place-plain : (further : ℕ) (nodes : ViewNodes) (number base : ℕ) → place_among further (plain_nodes nodes) number base
+      ≡ place_among further nodes number base
   place-plain further none number base = refl
   place-plain further (more node nodes) number base =
-      (λ i. if nat_lt number (plain-length node i) then base ∷ place-in-plain further node number i else place_among further (plain_nodes nodes) (number - plain-length node i) (base + 1))
-      ∙ ap (λ place. if nat_lt number (model_length node) then base ∷ place_in further node number else place) (place-plain further nodes (number - model_length node) (base + 1))
+      (λ i. if nat_lt number (plain-length node i) then base ∷ place-in-plain further node number i
+      else place_among further (plain_nodes nodes) (number - plain-length node i) (base + 1))
+      ∙ ap (λ place. if nat_lt number (model_length node) then base ∷ place_in further node number else place)
+      (place-plain further nodes (number - model_length node) (base + 1))
 
 mutual
   gap-in-plain : (node : ViewNode) (number : ℕ) → gap_in (plain_node node) number ≡ gap_in node number
@@ -46,18 +51,21 @@ mutual
   pub gap-plain : (nodes : ViewNodes) (number base : ℕ) → gap_among (plain_nodes nodes) number base ≡ gap_among nodes number base
   gap-plain none number base = refl
   gap-plain (more node nodes) number base =
-      (λ i. if nat_lt number (plain-length node i) then base ∷ gap-in-plain node number i else gap_among (plain_nodes nodes) (number - plain-length node i) (base + 1))
+      (λ i. if nat_lt number (plain-length node i) then base ∷ gap-in-plain node number i
+      else gap_among (plain_nodes nodes) (number - plain-length node i) (base + 1))
       ∙ ap (λ place. if nat_lt number (model_length node) then base ∷ gap_in node number else place) (gap-plain nodes (number - model_length node) (base + 1))
 
 -- ---- items
 
-around-map : (change : ViewNode → ViewNode) (kind : Kind) (inner outer : Option ViewNode) → by_around kind (option_map change inner) (option_map change outer) ≡ option_map change (by_around kind inner outer)
+around-map : (change : ViewNode → ViewNode) (kind : Kind) (inner outer : Option ViewNode)
+    → by_around kind (option_map change inner) (option_map change outer) ≡ option_map change (by_around kind inner outer)
 around-map change container inner outer = refl
 around-map change (attribute priority id) inner outer = refl
 around-map change empty inner outer = refl
 around-map change ui inner outer = refl
 
-if-map : (change : ViewNode → ViewNode) (b : Bool) (one other : Option ViewNode) → (if b then option_map change one else option_map change other) ≡ option_map change (if b then one else other)
+if-map : (change : ViewNode → ViewNode) (b : Bool) (one other : Option ViewNode) → (if b then option_map change one else option_map change other)
+    ≡ option_map change (if b then one else other)
 if-map change true one other = refl
 if-map change false one other = refl
 
@@ -72,7 +80,8 @@ mutual
   item-plain none number = refl
   item-plain (more node nodes) number =
       (λ i. if nat_lt number (plain-length node i) then item-in-plain node number i else item_among (plain_nodes nodes) (number - plain-length node i))
-      ∙ ap (λ item. if nat_lt number (model_length node) then option_map plain_node (item_in node number) else item) (item-plain nodes (number - model_length node))
+      ∙ ap (λ item. if nat_lt number (model_length node) then option_map plain_node (item_in node number) else item)
+      (item-plain nodes (number - model_length node))
       ∙ if-map plain_node (nat_lt number (model_length node)) (item_in node number) (item_among nodes (number - model_length node))
 
 plain-character : (item : Option ViewNode) → is_character (option_map plain_node item) ≡ is_character item
@@ -96,14 +105,19 @@ seen-plain nodes (suc number) base =
 pub seen-content : (list : List ViewNode) (number base : ℕ) → seen_among (nodes_of (content list)) number base ≡ seen_among (nodes_of list) number base
 seen-content list number base = ap (λ nodes. seen_among nodes number base) (sym (nodes-plain list)) ∙ seen-plain (nodes_of list) number base
 
-pub place-content : (further : ℕ) (list : List ViewNode) (number base : ℕ) → place_among further (nodes_of (content list)) number base ≡ place_among further (nodes_of list) number base
-place-content further list number base = ap (λ nodes. place_among further nodes number base) (sym (nodes-plain list)) ∙ place-plain further (nodes_of list) number base
+pub place-content : (further : ℕ) (list : List ViewNode) (number base : ℕ) → place_among further (nodes_of (content list)) number base
+    ≡ place_among further (nodes_of list) number base
+place-content further list number base = ap (λ nodes. place_among further nodes number base) (sym (nodes-plain list))
+    ∙ place-plain further (nodes_of list) number base
 
 -- in two lists of the same content
-pub row-seen : (list other : List ViewNode) (number base : ℕ) → content list ≡ content other → seen_among (nodes_of list) number base ≡ seen_among (nodes_of other) number base
-row-seen list other number base e = sym (seen-content list number base) ∙ ap (λ nodes. seen_among (nodes_of nodes) number base) e ∙ seen-content other number base
+pub row-seen : (list other : List ViewNode) (number base : ℕ) → content list ≡ content other → seen_among (nodes_of list) number base
+    ≡ seen_among (nodes_of other) number base
+row-seen list other number base e = sym (seen-content list number base) ∙ ap (λ nodes. seen_among (nodes_of nodes) number base) e
+    ∙ seen-content other number base
 
-pub row-place : (further : ℕ) (list other : List ViewNode) (number base : ℕ) → content list ≡ content other → place_among further (nodes_of list) number base ≡ place_among further (nodes_of other) number base
+pub row-place : (further : ℕ) (list other : List ViewNode) (number base : ℕ) → content list ≡ content other
+    → place_among further (nodes_of list) number base ≡ place_among further (nodes_of other) number base
 row-place further list other number base e =
     sym (place-content further list number base) ∙ ap (λ nodes. place_among further (nodes_of nodes) number base) e ∙ place-content further other number base
 
@@ -112,10 +126,12 @@ row-length list other e = sym (length-map list plain_node) ∙ ap length e ∙ l
 
 -- the nodes of a row have the same content, whatever the numbers
 pub row-content : (scene : Scene) (numbers : Numbers) (parent path : List ℕ) (items : Items)
-    → content (nest (inner_row (record scene { numbers = numbers }) parent path 0 0 items)) ≡ content (nest (inner_row (record scene { numbers = unnumbered }) parent path 0 0 items))
+    → content (nest (inner_row (record scene { numbers = numbers }) parent path 0 0 items))
+    ≡ content (nest (inner_row (record scene { numbers = unnumbered }) parent path 0 0 items))
 row-content scene numbers parent path items = as-unnumbered numbers ∙ sym (as-unnumbered unnumbered)
   where
-    as-unnumbered : (numbers : Numbers) → content (nest (inner_row (record scene { numbers = numbers }) parent path 0 0 items)) ≡ nest (inner_row (record scene { numbers = unnumbered }) parent path 0 0 items)
+    as-unnumbered : (numbers : Numbers) → content (nest (inner_row (record scene { numbers = numbers }) parent path 0 0 items))
+        ≡ nest (inner_row (record scene { numbers = unnumbered }) parent path 0 0 items)
     as-unnumbered numbers =
         nest-plain (inner_row (record scene { numbers = numbers }) parent path 0 0 items)
         ∙ ap nest (inner-plain scene.conversion scene.markers scene.caret numbers parent path 0 0 items)
@@ -146,14 +162,16 @@ mutual
   items-uncounted none number = refl
   items-uncounted (more node nodes) number =
       (λ i. if nat_lt number (node-length node i) then item-in-uncounted node number i else item_among (uncounted_nodes nodes) (number - node-length node i))
-      ∙ ap (λ item. if nat_lt number (model_length node) then option_map uncounted_node (item_in node number) else item) (items-uncounted nodes (number - model_length node))
+      ∙ ap (λ item. if nat_lt number (model_length node) then option_map uncounted_node (item_in node number) else item)
+      (items-uncounted nodes (number - model_length node))
       ∙ if-map uncounted_node (nat_lt number (model_length node)) (item_in node number) (item_among nodes (number - model_length node))
 
 nodes-uncounted : (list : List ViewNode) → nodes_of (uncounted list) ≡ uncounted_nodes (nodes_of list)
 nodes-uncounted [] = refl
 nodes-uncounted (node ∷ list) = ap (more (uncounted_node node)) (nodes-uncounted list)
 
-pub item-uncounted : (list : List ViewNode) (number : ℕ) → item_among (nodes_of (uncounted list)) number ≡ option_map uncounted_node (item_among (nodes_of list) number)
+pub item-uncounted : (list : List ViewNode) (number : ℕ) → item_among (nodes_of (uncounted list)) number
+    ≡ option_map uncounted_node (item_among (nodes_of list) number)
 item-uncounted list number = ap (λ nodes. item_among nodes number) (nodes-uncounted list) ∙ items-uncounted (nodes_of list) number
 
 children-uncounted : (node : Option ViewNode) → children_at (option_map uncounted_node node) ≡ uncounted (children_at node)
@@ -170,35 +188,42 @@ caret-uncounted : (place : List ℕ) (base : ℕ) (nodes : List ViewNode) → ca
 caret-uncounted [] base nodes = refl
 caret-uncounted (index ∷ rest) base nodes = ap (λ n. if nat_le index n then (base + index) ∷ rest else []) (length-uncounted nodes)
 
-seen-uncounted : (caret : Option (List ℕ)) (place : List ℕ) (base : ℕ) (nodes : List ViewNode) (offset : ℕ) → seen_at caret place base (uncounted nodes) offset ≡ seen_at caret place base nodes offset
+seen-uncounted : (caret : Option (List ℕ)) (place : List ℕ) (base : ℕ) (nodes : List ViewNode) (offset : ℕ)
+    → seen_at caret place base (uncounted nodes) offset ≡ seen_at caret place base nodes offset
 seen-uncounted caret place base nodes offset =
     λ i. if is_here (below_index offset caret) then caret-uncounted place base nodes i else row-seen (uncounted nodes) nodes offset base (same-content nodes) i
 
 -- ---- in a slot
 
-step-uncounted : (further : List ViewNode → Option (List ViewNode)) → ((nodes : List ViewNode) → further (uncounted nodes) ≡ option_map uncounted (further nodes)) → (node : Option ViewNode)
+step-uncounted : (further : List ViewNode → Option (List ViewNode))
+    → ((nodes : List ViewNode) → further (uncounted nodes) ≡ option_map uncounted (further nodes)) → (node : Option ViewNode)
     → option_and_then (λ node. option_and_then further (children_of node)) (option_map uncounted_node node)
     ≡ option_map uncounted (option_and_then (λ node. option_and_then further (children_of node)) node)
 step-uncounted further blind None = refl
 step-uncounted further blind (Some (text scalars)) = refl
 step-uncounted further blind (Some (element head children)) = ap further (list_of-uncounted children) ∙ blind (list_of children)
 
-pub inside-uncounted : (way : List ℕ) (behind : ℕ) (nodes : List ViewNode) → inside way behind (uncounted nodes) ≡ option_map uncounted (inside way behind nodes)
+pub inside-uncounted : (way : List ℕ) (behind : ℕ) (nodes : List ViewNode) → inside way behind (uncounted nodes)
+    ≡ option_map uncounted (inside way behind nodes)
 inside-uncounted [] behind nodes = refl
 inside-uncounted (base ∷ []) behind nodes = ap Some (content-uncounted base behind nodes)
 inside-uncounted (step ∷ next ∷ way) behind nodes =
     ap (option_and_then (λ node. option_and_then (inside (next ∷ way) behind) (children_of node))) (get-uncounted nodes step)
     ∙ step-uncounted (inside (next ∷ way) behind) (inside-uncounted (next ∷ way) behind) (slice_get nodes step)
 
-module _ (further : ℕ → List ViewNode → List ℕ) (blind : (first : ℕ) (nodes : List ViewNode) → further first (uncounted nodes) ≡ further first nodes) (outside place : List ℕ) where
-  content-blind : (way : List ℕ) (inner : Option (List ViewNode)) → in_content further outside place way (option_map uncounted inner) ≡ in_content further outside place way inner
+module _ (further : ℕ → List ViewNode → List ℕ) (blind : (first : ℕ) (nodes : List ViewNode) → further first (uncounted nodes) ≡ further first nodes)
+    (outside place : List ℕ) where
+  content-blind : (way : List ℕ) (inner : Option (List ViewNode)) → in_content further outside place way (option_map uncounted inner)
+      ≡ in_content further outside place way inner
   content-blind way None = refl
   content-blind way (Some inner) = ap (λ rest. place ++ (parent_of way ++ rest)) (blind (offset_of way) inner)
 
-  item-blind : (children : List ViewNode) (slot : Option Slot) → in_item further outside place (uncounted children) slot ≡ in_item further outside place children slot
+  item-blind : (children : List ViewNode) (slot : Option Slot) → in_item further outside place (uncounted children) slot
+      ≡ in_item further outside place children slot
   item-blind children None = refl
   item-blind children (Some slot) =
-      ap (in_content further outside place slot.place) (inside-uncounted slot.place slot.behind children) ∙ content-blind slot.place (inside slot.place slot.behind children)
+      ap (in_content further outside place slot.place) (inside-uncounted slot.place slot.behind children)
+      ∙ content-blind slot.place (inside slot.place slot.behind children)
 
 -- a position is shown at the same place, whatever the counts
 pub shown-uncounted : (slots : Slots) (caret : Option (List ℕ)) (place : List ℕ) (base : ℕ) (nodes : List ViewNode) (position : List ℕ)

@@ -3,7 +3,8 @@ use Rattle.std.proofs.Common.{◌≡◌, ℕ, ◌+◌, List, [], ◌∷◌, leng
 use Rattle.std.specs.Prelude.{if◌then◌else◌}
 use Rattle.view_definitions.specs.Node.{Kind, container, attribute, empty, ui, ViewNode, ViewNodes, text, element, list_of, nodes_of}
 use Rattle.view_definitions.specs.Layer.{Layer, same_layer}
-use Rattle.view_definitions.specs.Row.{Content, leaf, item, character, caret, Entry, Piece, Pieces, nothing, first, bare, wrapped, put, pieces_of, character_before, content_before, shown, nest, is_item_kind}
+use Rattle.view_definitions.specs.Row.{Content, leaf, item, character, caret, Entry, Piece, Pieces, nothing, first, bare, wrapped, put, pieces_of}
+use Rattle.view_definitions.specs.Row.{character_before, content_before, shown, nest, is_item_kind}
 use Rattle.downcast_definitions.specs.Meant.{length_by_kind, inner_length, Inners}
 use Rattle.pos_mapper.specs.Reading.{Slots}
 use Rattle.pos_mapper.proofs.Walk.{ByKind, IsRead, Match}
@@ -31,13 +32,16 @@ row_items (entry ∷ row) = counted entry.content + row_items row
 
 items-put : (layers : List Layer) (content : Content) (pieces : Pieces) → pieces_items (put layers content pieces) ≡ counted content + pieces_items pieces
 items-put [] content pieces = refl
-items-put (layer ∷ layers) content nothing = (let e : pieces_items (put layers content nothing) ≡ counted content + 0 = items-put layers content nothing in omega (arith, e))
+items-put (layer ∷ layers) content nothing = (let e : pieces_items (put layers content nothing) ≡ counted content + 0 = items-put layers content nothing
+    in omega (arith, e))
 items-put (layer ∷ layers) content (first (bare next) pieces) =
     (let e : pieces_items (put layers content nothing) ≡ counted content + 0 = items-put layers content nothing in omega (arith, e))
 items-put (layer ∷ layers) content (first (wrapped other inner) pieces) =
     let kids : pieces_items (put layers content inner) ≡ counted content + pieces_items inner = items-put layers content inner in
     let alone : pieces_items (put layers content nothing) ≡ counted content + 0 = items-put layers content nothing in
-    elim (same_layer layer other) as (λ b. pieces_items (if b then first (wrapped layer (put layers content inner)) pieces else first (wrapped layer (put layers content nothing)) (first (wrapped other inner) pieces)) ≡ counted content + (pieces_items inner + pieces_items pieces)) [
+    elim (same_layer layer other) as (λ b. pieces_items (if b then first (wrapped layer (put layers content inner)) pieces
+    else first (wrapped layer (put layers content nothing)) (first (wrapped other inner) pieces))
+    ≡ counted content + (pieces_items inner + pieces_items pieces)) [
       | true ↦ omega (arith, kids)
       | false ↦ omega (arith, alone)
     ]
@@ -102,7 +106,8 @@ module _ (slots : Slots) (inners : Inners) (depth : ℕ) where
   at : (offset place : ℕ) (pieces others : Pieces) → offset ≡ place → MatchPieces offset pieces others → MatchPieces place pieces others
   at offset place pieces others e m = subst (λ n. MatchPieces n pieces others) e m
 
-  match-put : (layers : List Layer) (offset : ℕ) (content other : Content) (pieces others : Pieces) → MatchContent offset content other → MatchPieces (offset + counted other) pieces others
+  match-put : (layers : List Layer) (offset : ℕ) (content other : Content) (pieces others : Pieces) → MatchContent offset content other
+      → MatchPieces (offset + counted other) pieces others
       → MatchPieces offset (put layers content pieces) (put layers other others)
   match-put [] offset content other pieces others c m = (c, m)
   match-put (layer ∷ layers) offset content other nothing nothing c m = ((refl, match-put layers offset content other nothing nothing c tt), tt)
@@ -120,10 +125,20 @@ module _ (slots : Slots) (inners : Inners) (depth : ℕ) where
       let alone : MatchPieces offset (put layers content nothing) (put layers other nothing) = match-put layers offset content other nothing nothing c tt in
       let items : pieces_items (put layers other inner) ≡ counted other + pieces_items inner = items-put layers other inner in
       let items_alone : pieces_items (put layers other nothing) ≡ counted other + 0 = items-put layers other nothing in
-      subst (λ l. MatchPieces offset (if same_layer layer outer then first (wrapped layer (put layers content kids)) pieces else first (wrapped layer (put layers content nothing)) (first (wrapped outer kids) pieces)) (if same_layer layer l then first (wrapped layer (put layers other inner)) others else first (wrapped layer (put layers other nothing)) (first (wrapped l inner) others))) m.0.0
-      (elim (same_layer layer outer) as (λ b. MatchPieces offset (if b then first (wrapped layer (put layers content kids)) pieces else first (wrapped layer (put layers content nothing)) (first (wrapped outer kids) pieces)) (if b then first (wrapped layer (put layers other inner)) others else first (wrapped layer (put layers other nothing)) (first (wrapped outer inner) others))) [
+      subst (λ l. MatchPieces offset (if same_layer layer outer then first (wrapped layer (put layers content kids)) pieces
+      else first (wrapped layer (put layers content nothing)) (first (wrapped outer kids) pieces)) (if same_layer layer l
+      then first (wrapped layer (put layers other inner)) others
+      else first (wrapped layer (put layers other nothing)) (first (wrapped l inner) others))) m.0.0
+      (elim (same_layer layer outer) as (λ b. MatchPieces offset (if b then first (wrapped layer (put layers content kids)) pieces
+      else first (wrapped layer (put layers content nothing)) (first (wrapped outer kids) pieces)) (if b
+      then first (wrapped layer (put layers other inner)) others
+      else first (wrapped layer (put layers other nothing)) (first (wrapped outer inner) others))) [
         | true ↦ ((refl, within), at (offset + counted other + pieces_items inner) _ pieces others (omega (arith, items)) m.1)
-        | false ↦ ((refl, alone), at (offset + counted other) _ (first (wrapped outer kids) pieces) (first (wrapped outer inner) others) (omega (arith, items_alone)) ((refl, m.0.1), m.1))
+        | false ↦ (
+          (refl, alone),
+          at (offset + counted other) _ (first (wrapped outer kids) pieces) (first (wrapped outer inner) others)
+              (omega (arith, items_alone)) ((refl, m.0.1), m.1),
+        )
       ])
 
   pub match-pieces : (offset : ℕ) (row others : List Entry) → MatchRow offset row others → MatchPieces offset (pieces_of row) (pieces_of others)
@@ -132,11 +147,13 @@ module _ (slots : Slots) (inners : Inners) (depth : ℕ) where
   match-pieces offset (entry ∷ row) [] m = absurd m
   match-pieces offset (entry ∷ row) (other ∷ others) m =
       subst (λ layers. MatchPieces offset (put entry.layers entry.content (pieces_of row)) (put layers other.content (pieces_of others))) m.0
-      (match-put entry.layers offset entry.content other.content (pieces_of row) (pieces_of others) m.1 (match-pieces (offset + counted other.content) row others m.2))
+      (match-put entry.layers offset entry.content other.content (pieces_of row) (pieces_of others) m.1
+      (match-pieces (offset + counted other.content) row others m.2))
 
   -- ---- as nodes
 
-  move : (offset place : ℕ) (nodes others : ViewNodes) → offset ≡ place → Match slots inners depth offset nodes others → Match slots inners depth place nodes others
+  move : (offset place : ℕ) (nodes others : ViewNodes) → offset ≡ place → Match slots inners depth offset nodes others
+      → Match slots inners depth place nodes others
   move offset place nodes others e m = subst (λ n. Match slots inners depth n nodes others) e m
 
   item-inside : (kind : Kind) (Around Inside : Type 0) → is_item_kind kind ≡ true → Inside → ByKind kind Around Inside
@@ -145,7 +162,8 @@ module _ (slots : Slots) (inners : Inners) (depth : ℕ) where
   item-inside empty Around Inside e i = i
   item-inside ui Around Inside e i = cc
 
-  match-character : (offset scalar other : ℕ) (nodes others : List ViewNode) → scalar ≡ other → Match slots inners depth (offset + 1) (nodes_of nodes) (nodes_of others)
+  match-character : (offset scalar other : ℕ) (nodes others : List ViewNode) → scalar ≡ other
+      → Match slots inners depth (offset + 1) (nodes_of nodes) (nodes_of others)
       → Match slots inners depth offset (nodes_of (character_before scalar nodes)) (nodes_of (character_before other others))
   match-character offset scalar other [] [] e m = (ap (λ s. s ∷ []) e, tt)
   match-character offset scalar other [] (next ∷ others) e m = absurd m
@@ -157,14 +175,19 @@ module _ (slots : Slots) (inners : Inners) (depth : ℕ) where
   match-character offset scalar other (element head children ∷ nodes) (text last ∷ others) e m = absurd m.0
   match-character offset scalar other (element head children ∷ nodes) (element last inner ∷ others) e m = (ap (λ s. s ∷ []) e, m)
 
-  match-content : (offset : ℕ) (content other : Content) (nodes others : List ViewNode) → MatchContent offset content other → Match slots inners depth (offset + counted other) (nodes_of nodes) (nodes_of others)
+  match-content : (offset : ℕ) (content other : Content) (nodes others : List ViewNode) → MatchContent offset content other
+      → Match slots inners depth (offset + counted other) (nodes_of nodes) (nodes_of others)
       → Match slots inners depth offset (nodes_of (content_before content nodes)) (nodes_of (content_before other others))
   match-content offset (leaf (text scalars)) (leaf (text last)) nodes others c m = absurd c.1
   match-content offset (leaf (text scalars)) (leaf (element last inner)) nodes others c m = cc
   match-content offset (leaf (element head children)) (leaf (text last)) nodes others c m = absurd c.1
   match-content offset (leaf (element head children)) (leaf (element last inner)) nodes others c m =
       let kinds : head.kind ≡ last.kind = (let same : element head children ≡ element last inner = c.0 in cc) in (
-        (kinds, subst (λ kind. ByKind kind (Match slots inners depth offset children inner) (IsRead slots inners depth offset (list_of children) head.number)) (sym c.1) tt),
+        (
+          kinds,
+          subst (λ kind. ByKind kind (Match slots inners depth offset children inner)
+              (IsRead slots inners depth offset (list_of children) head.number)) (sym c.1) tt,
+        ),
         move (offset + 0) _ (nodes_of nodes) (nodes_of others) (ap (λ kind. offset + length_by_kind kind (inner_length inner)) (sym c.1)) m,
       )
   match-content offset (leaf node) (item last) nodes others c m = absurd c
@@ -190,16 +213,19 @@ module _ (slots : Slots) (inners : Inners) (depth : ℕ) where
 
   -- ---- how many items the nodes show
 
-  content-counts : (offset : ℕ) (content other : Content) (nodes : List ViewNode) → MatchContent offset content other → inner_length (nodes_of (content_before other nodes)) ≡ counted other + inner_length (nodes_of nodes)
+  content-counts : (offset : ℕ) (content other : Content) (nodes : List ViewNode) → MatchContent offset content other
+      → inner_length (nodes_of (content_before other nodes)) ≡ counted other + inner_length (nodes_of nodes)
   content-counts offset (leaf node) (leaf (text last)) nodes c = absurd c.1
-  content-counts offset (leaf node) (leaf (element last inner)) nodes c = ap (λ kind. length_by_kind kind (inner_length inner) + inner_length (nodes_of nodes)) c.1
+  content-counts offset (leaf node) (leaf (element last inner)) nodes c =
+      ap (λ kind. length_by_kind kind (inner_length inner) + inner_length (nodes_of nodes)) c.1
   content-counts offset (leaf node) (item last) nodes c = absurd c
   content-counts offset (leaf node) (character last) nodes c = absurd c
   content-counts offset (leaf node) caret nodes c = absurd c
   content-counts offset (item node) (leaf last) nodes c = absurd c
   content-counts offset (item (text scalars)) (item last) nodes c = absurd c
   content-counts offset (item (element head children)) (item (text last)) nodes c = absurd c
-  content-counts offset (item (element head children)) (item (element last inner)) nodes c = ap (λ n. n + inner_length (nodes_of nodes)) (item-length last.kind (inner_length inner) c.1)
+  content-counts offset (item (element head children)) (item (element last inner)) nodes c = ap (λ n. n + inner_length (nodes_of nodes))
+      (item-length last.kind (inner_length inner) c.1)
   content-counts offset (item node) (character last) nodes c = absurd c
   content-counts offset (item node) caret nodes c = absurd c
   content-counts offset (character scalar) (leaf last) nodes c = absurd c
@@ -212,7 +238,8 @@ module _ (slots : Slots) (inners : Inners) (depth : ℕ) where
   content-counts offset caret caret nodes c = omega arith
 
   mutual
-    piece-counts : (offset : ℕ) (piece other : Piece) (pieces others : Pieces) → MatchPiece offset piece other → inner_length (nodes_of (shown others)) ≡ pieces_items others
+    piece-counts : (offset : ℕ) (piece other : Piece) (pieces others : Pieces) → MatchPiece offset piece other → inner_length (nodes_of (shown others))
+        ≡ pieces_items others
         → inner_length (nodes_of (shown (first other others))) ≡ piece_items other + pieces_items others
     piece-counts offset (bare content) (bare other) pieces others m ih = content-counts offset content other (shown others) m ∙ ap (λ n. counted other + n) ih
     piece-counts offset (bare content) (wrapped layer inner) pieces others m ih = absurd m
@@ -223,27 +250,33 @@ module _ (slots : Slots) (inners : Inners) (depth : ℕ) where
     shown-counts offset nothing nothing m = refl
     shown-counts offset nothing (first other others) m = absurd m
     shown-counts offset (first piece pieces) nothing m = absurd m
-    shown-counts offset (first piece pieces) (first other others) m = piece-counts offset piece other pieces others m.0 (shown-counts (offset + piece_items other) pieces others m.1)
+    shown-counts offset (first piece pieces) (first other others) m = piece-counts offset piece other pieces others m.0
+        (shown-counts (offset + piece_items other) pieces others m.1)
 
   mutual
-    match-piece : (offset : ℕ) (piece other : Piece) (pieces others : Pieces) → MatchPiece offset piece other → Match slots inners depth (offset + piece_items other) (nodes_of (shown pieces)) (nodes_of (shown others))
+    match-piece : (offset : ℕ) (piece other : Piece) (pieces others : Pieces) → MatchPiece offset piece other
+        → Match slots inners depth (offset + piece_items other) (nodes_of (shown pieces)) (nodes_of (shown others))
         → Match slots inners depth offset (nodes_of (shown (first piece pieces))) (nodes_of (shown (first other others)))
     match-piece offset (bare content) (bare other) pieces others m rest = match-content offset content other (shown pieces) (shown others) m rest
     match-piece offset (bare content) (wrapped layer inner) pieces others m rest = absurd m
     match-piece offset (wrapped layer inner) (bare other) pieces others m rest = absurd m
     match-piece offset (wrapped layer inner) (wrapped other kids) pieces others m rest = (
       ((λ i. attribute (m.0 i).priority (m.0 i).id), match-shown offset inner kids m.1),
-      move (offset + pieces_items kids) _ (nodes_of (shown pieces)) (nodes_of (shown others)) (ap (λ n. offset + n) (sym (shown-counts offset inner kids m.1))) rest,
+      move (offset + pieces_items kids) _ (nodes_of (shown pieces)) (nodes_of (shown others))
+          (ap (λ n. offset + n) (sym (shown-counts offset inner kids m.1))) rest,
     )
 
-    pub match-shown : (offset : ℕ) (pieces others : Pieces) → MatchPieces offset pieces others → Match slots inners depth offset (nodes_of (shown pieces)) (nodes_of (shown others))
+    pub match-shown : (offset : ℕ) (pieces others : Pieces) → MatchPieces offset pieces others
+        → Match slots inners depth offset (nodes_of (shown pieces)) (nodes_of (shown others))
     match-shown offset nothing nothing m = tt
     match-shown offset nothing (first other others) m = absurd m
     match-shown offset (first piece pieces) nothing m = absurd m
-    match-shown offset (first piece pieces) (first other others) m = match-piece offset piece other pieces others m.0 (match-shown (offset + piece_items other) pieces others m.1)
+    match-shown offset (first piece pieces) (first other others) m = match-piece offset piece other pieces others m.0
+        (match-shown (offset + piece_items other) pieces others m.1)
 
   -- rows nest so
-  pub match-nest : (offset : ℕ) (row others : List Entry) → MatchRow offset row others → Match slots inners depth offset (nodes_of (nest row)) (nodes_of (nest others))
+  pub match-nest : (offset : ℕ) (row others : List Entry) → MatchRow offset row others
+      → Match slots inners depth offset (nodes_of (nest row)) (nodes_of (nest others))
   match-nest offset row others m = match-shown offset (pieces_of row) (pieces_of others) (match-pieces offset row others m)
 
   pub nest-counts : (offset : ℕ) (row others : List Entry) → MatchRow offset row others → inner_length (nodes_of (nest others)) ≡ row_items others

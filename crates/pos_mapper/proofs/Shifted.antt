@@ -6,7 +6,8 @@ use Rattle.view_definitions.specs.Node.{ViewNodes, none, more}
 use Rattle.view_definitions.specs.Row.{Pieces, nothing, first, bare, wrapped, pieces_of}
 use Rattle.downcast_definitions.specs.Scene.{Scene, has_caret, boundary}
 use Rattle.downcast_definitions.specs.Rows.{row_of}
-use Rattle.downcast_definitions.specs.Place.{pieces_size, Passed, none_passed, node_more, behind_content, begins_with_text, Found, in_or_before_text, as_place, as_node, in_pieces}
+use Rattle.downcast_definitions.specs.Place.{pieces_size, Passed, none_passed, node_more, behind_content, begins_with_text, Found, in_or_before_text, as_place}
+use Rattle.downcast_definitions.specs.Place.{as_node, in_pieces}
 use Rattle.downcast_definitions.specs.Seen.{entries_before, mark_at, boundary_place, node_place}
 use Rattle.downcast_definitions.specs.Meant.{model_length}
 use Rattle.downcast_definitions.specs.Among.{place_in, place_among, item_among, gap_in, gap_among, is_character, before_item, seen_among}
@@ -36,23 +37,31 @@ further-on base index next e = omega (arith, e)
 from-none : (base : ℕ) → base ≡ base + 0
 from-none base = omega arith
 
-pub place-further : (base further : ℕ) (nodes : ViewNodes) (number index : ℕ) → place_among further nodes number (base + index) ≡ shift base (place_among further nodes number index)
+pub place-further : (base further : ℕ) (nodes : ViewNodes) (number index : ℕ) → place_among further nodes number (base + index)
+    ≡ shift base (place_among further nodes number index)
 place-further base further none number index = refl
 place-further base further (more node nodes) number index =
-    elim (nat_lt number (model_length node)) as (λ b. (if b then (base + index) ∷ place_in further node number else place_among further nodes (number - model_length node) (base + index + 1)) ≡ shift base (if b then index ∷ place_in further node number else place_among further nodes (number - model_length node) (index + 1))) [
+    elim (nat_lt number (model_length node)) as
+    (λ b. (if b then (base + index) ∷ place_in further node number else place_among further nodes (number - model_length node) (base + index + 1))
+    ≡ shift base (if b then index ∷ place_in further node number else place_among further nodes (number - model_length node) (index + 1))) [
       | true ↦ refl
-      | false ↦ ap (place_among further nodes (number - model_length node)) (further-on base index (index + 1) refl) ∙ place-further base further nodes (number - model_length node) (index + 1)
+      | false ↦ ap (place_among further nodes (number - model_length node)) (further-on base index (index + 1) refl)
+          ∙ place-further base further nodes (number - model_length node) (index + 1)
     ]
 
-pub place-shifted : (further : ℕ) (nodes : ViewNodes) (number base : ℕ) → place_among further nodes number base ≡ shift base (place_among further nodes number 0)
+pub place-shifted : (further : ℕ) (nodes : ViewNodes) (number base : ℕ) → place_among further nodes number base
+    ≡ shift base (place_among further nodes number 0)
 place-shifted further nodes number base = ap (place_among further nodes number) (from-none base) ∙ place-further base further nodes number 0
 
 pub gap-further : (base : ℕ) (nodes : ViewNodes) (number index : ℕ) → gap_among nodes number (base + index) ≡ shift base (gap_among nodes number index)
 gap-further base none number index = refl
 gap-further base (more node nodes) number index =
-    elim (nat_lt number (model_length node)) as (λ b. (if b then (base + index) ∷ gap_in node number else gap_among nodes (number - model_length node) (base + index + 1)) ≡ shift base (if b then index ∷ gap_in node number else gap_among nodes (number - model_length node) (index + 1))) [
+    elim (nat_lt number (model_length node)) as
+    (λ b. (if b then (base + index) ∷ gap_in node number else gap_among nodes (number - model_length node) (base + index + 1))
+    ≡ shift base (if b then index ∷ gap_in node number else gap_among nodes (number - model_length node) (index + 1))) [
       | true ↦ refl
-      | false ↦ ap (gap_among nodes (number - model_length node)) (further-on base index (index + 1) refl) ∙ gap-further base nodes (number - model_length node) (index + 1)
+      | false ↦ ap (gap_among nodes (number - model_length node)) (further-on base index (index + 1) refl)
+          ∙ gap-further base nodes (number - model_length node) (index + 1)
     ]
 
 gap-shifted : (nodes : ViewNodes) (number base : ℕ) → gap_among nodes number base ≡ shift base (gap_among nodes number 0)
@@ -76,15 +85,19 @@ seen-shifted nodes (suc number) base =
 -- ---- in a row
 
 -- where each entry is found at a place that is not empty, so is any of pieces
-pub in-pieces-some : (found : Found) → ((passed : Passed) (behind : Bool) → NotEmpty (found passed behind)) → (pieces : Pieces) (number : ℕ) (passed : Passed) → NotEmpty (in_pieces found pieces number passed)
+pub in-pieces-some : (found : Found) → ((passed : Passed) (behind : Bool) → NotEmpty (found passed behind))
+    → (pieces : Pieces) (number : ℕ) (passed : Passed) → NotEmpty (in_pieces found pieces number passed)
 in-pieces-some found h nothing number passed = h passed false
 in-pieces-some found h (first (bare content) pieces) number passed =
-    elim (number == 0) as (λ b. NotEmpty (if b then found passed (begins_with_text pieces) else in_pieces found pieces (number - 1) (behind_content content passed))) [
+    elim (number == 0) as (λ b. NotEmpty (if b then found passed (begins_with_text pieces)
+    else in_pieces found pieces (number - 1) (behind_content content passed))) [
       | true ↦ h passed (begins_with_text pieces)
       | false ↦ in-pieces-some found h pieces (number - 1) (behind_content content passed)
     ]
 in-pieces-some found h (first (wrapped layer inner) pieces) number passed =
-    elim (nat_lt number (pieces_size inner)) as (λ b. NotEmpty (if b then passed.nodes ∷ in_pieces found inner number none_passed else in_pieces found pieces (number - pieces_size inner) (node_more passed))) [
+    elim (nat_lt number (pieces_size inner)) as
+    (λ b. NotEmpty (if b then passed.nodes ∷ in_pieces found inner number none_passed
+    else in_pieces found pieces (number - pieces_size inner) (node_more passed))) [
       | true ↦ tt
       | false ↦ in-pieces-some found h pieces (number - pieces_size inner) (node_more passed)
     ]
@@ -109,4 +122,5 @@ boundary-some scene parent path list offset =
 
 pub node-some : (scene : Scene) (parent path : List ℕ) (list : List Item) (index : ℕ) → NotEmpty (node_place scene parent path list index)
 node-some scene parent path list index =
-    in-pieces-some as_node as-node-some (pieces_of (row_of scene parent path list)) (entries_before scene path index + length (boundary scene (path ++ index ∷ []))) none_passed
+    in-pieces-some as_node as-node-some (pieces_of (row_of scene parent path list))
+    (entries_before scene path index + length (boundary scene (path ++ index ∷ []))) none_passed

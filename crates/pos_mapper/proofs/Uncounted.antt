@@ -5,7 +5,8 @@ use Rattle.view_definitions.specs.Node.{ViewNode, ViewNodes, text, element, none
 use Rattle.downcast_definitions.specs.Meant.{by_kind, length_by_kind, model_length, inner_length}
 use Rattle.pos_mapper.specs.Bindings.{Slot}
 use Rattle.view_definitions.specs.Node.{uncounted_node, uncounted_nodes, uncounted}
-use Rattle.pos_mapper.specs.Reading.{Slots, Below, lengths, in_position, before_node, only_number, between_nodes, content_of, in_slot, in_node, in_nodes, at_step, on_way, read}
+use Rattle.pos_mapper.specs.Reading.{Slots, Below, lengths, in_position, before_node, only_number, between_nodes, content_of, in_slot, in_node, in_nodes}
+use Rattle.pos_mapper.specs.Reading.{at_step, on_way, read}
 
 mutual
   pub node-length : (node : ViewNode) → model_length (uncounted_node node) ≡ model_length node
@@ -54,15 +55,18 @@ pub content-uncounted : (base behind : ℕ) (nodes : List ViewNode) → content_
 content-uncounted base behind nodes =
     (λ i. take (length-uncounted nodes i - base - behind) (drop-uncounted base nodes i)) ∙ take-uncounted (length nodes - base - behind) (drop base nodes)
 
-module _ (slots : Slots) (below : Below) (blind : (depth : ℕ) (way : List ℕ) (behind offset : ℕ) (nodes : List ViewNode) → below depth way behind offset (uncounted nodes) ≡ below depth way behind offset nodes)
+module _ (slots : Slots) (below : Below) (blind : (depth : ℕ) (way : List ℕ) (behind offset : ℕ) (nodes : List ViewNode)
+    → below depth way behind offset (uncounted nodes) ≡ below depth way behind offset nodes)
     (path : List ℕ) (last : ℕ) where
-  slot-blind : (depth offset : ℕ) (children : ViewNodes) (slot : Option Slot) → in_slot below depth offset (list_of (uncounted_nodes children)) slot ≡ in_slot below depth offset (list_of children) slot
+  slot-blind : (depth offset : ℕ) (children : ViewNodes) (slot : Option Slot) → in_slot below depth offset (list_of (uncounted_nodes children)) slot
+      ≡ in_slot below depth offset (list_of children) slot
   slot-blind depth offset children None = refl
   slot-blind depth offset children (Some slot) =
       ap (λ inner. if nat_lt depth 64 then option_map (λ position. offset ∷ position) inner else None)
       (ap (below (depth + 1) slot.place slot.behind 0) (list_of-uncounted children) ∙ blind (depth + 1) slot.place slot.behind 0 (list_of children))
 
-  node-blind : (depth offset : ℕ) (node : ViewNode) → in_node slots below depth path last offset (uncounted_node node) ≡ in_node slots below depth path last offset node
+  node-blind : (depth offset : ℕ) (node : ViewNode) → in_node slots below depth path last offset (uncounted_node node)
+      ≡ in_node slots below depth path last offset node
   node-blind depth offset (text scalars) = refl
   node-blind depth offset (element head children) =
       λ i. by_kind head.kind ((ap (below depth [] 0 offset) (list_of-uncounted children) ∙ blind depth [] 0 offset (list_of children)) i)
@@ -75,25 +79,31 @@ module _ (slots : Slots) (below : Below) (blind : (depth : ℕ) (way : List ℕ)
   got-blind depth None (Some node) = refl
   got-blind depth (Some offset) (Some node) = node-blind depth offset node
 
-  nodes-blind : (depth offset : ℕ) (nodes : List ViewNode) (index : ℕ) → in_nodes slots below depth path last offset (uncounted nodes) index ≡ in_nodes slots below depth path last offset nodes index
+  nodes-blind : (depth offset : ℕ) (nodes : List ViewNode) (index : ℕ) → in_nodes slots below depth path last offset (uncounted nodes) index
+      ≡ in_nodes slots below depth path last offset nodes index
   nodes-blind depth offset nodes index =
-      (λ i. option_and_then (λ node. option_and_then (λ before. in_node slots below depth path last before node) (before-uncounted offset index nodes i)) (get-uncounted nodes index i))
+      (λ i. option_and_then (λ node. option_and_then (λ before. in_node slots below depth path last before node)
+      (before-uncounted offset index nodes i)) (get-uncounted nodes index i))
       ∙ got-blind depth (before_node offset index nodes) (slice_get nodes index)
 
 step-got : (further : List ViewNode → Option (List ℕ)) → ((nodes : List ViewNode) → further (uncounted nodes) ≡ further nodes) → (node : Option ViewNode)
-    → option_and_then (λ node. option_and_then further (children_of node)) (option_map uncounted_node node) ≡ option_and_then (λ node. option_and_then further (children_of node)) node
+    → option_and_then (λ node. option_and_then further (children_of node)) (option_map uncounted_node node)
+    ≡ option_and_then (λ node. option_and_then further (children_of node)) node
 step-got further blind None = refl
 step-got further blind (Some (text scalars)) = refl
 step-got further blind (Some (element head children)) = ap further (list_of-uncounted children) ∙ blind (list_of children)
 
-step-blind : (further : List ViewNode → Option (List ℕ)) → ((nodes : List ViewNode) → further (uncounted nodes) ≡ further nodes) → (step : ℕ) (nodes : List ViewNode) (index : ℕ)
+step-blind : (further : List ViewNode → Option (List ℕ)) → ((nodes : List ViewNode) → further (uncounted nodes) ≡ further nodes)
+    → (step : ℕ) (nodes : List ViewNode) (index : ℕ)
     → at_step step (uncounted nodes) index further ≡ at_step step nodes index further
 step-blind further blind step nodes index =
     ap (λ got. if step == index then got else None)
     (ap (option_and_then (λ node. option_and_then further (children_of node))) (get-uncounted nodes index) ∙ step-got further blind (slice_get nodes index))
 
-way-blind : (way : List ℕ) (behind : ℕ) (nodes : List ViewNode) (index : ℕ) (here : List ViewNode → ℕ → Option (List ℕ)) (further : List ℕ → List ViewNode → Option (List ℕ))
-    → ((nodes : List ViewNode) (index : ℕ) → here (uncounted nodes) index ≡ here nodes index) → ((way : List ℕ) (nodes : List ViewNode) → further way (uncounted nodes) ≡ further way nodes)
+way-blind : (way : List ℕ) (behind : ℕ) (nodes : List ViewNode) (index : ℕ) (here : List ViewNode → ℕ → Option (List ℕ)) (further : List ℕ
+    → List ViewNode → Option (List ℕ))
+    → ((nodes : List ViewNode) (index : ℕ) → here (uncounted nodes) index ≡ here nodes index)
+    → ((way : List ℕ) (nodes : List ViewNode) → further way (uncounted nodes) ≡ further way nodes)
     → on_way way behind (uncounted nodes) index here further ≡ on_way way behind nodes index here further
 way-blind [] behind nodes index here further h f = h nodes index
 way-blind (base ∷ []) behind nodes index here further h f =

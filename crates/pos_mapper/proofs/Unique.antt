@@ -1,5 +1,6 @@
 -- A place that goes on in an item's node is the place of this item.
-use Rattle.std.proofs.Common.{◌≡◌, ℕ, zero, suc, ◌+◌, ◌-◌, ◌<◌, List, [], ◌∷◌, ◌++◌, length, Bool, true, false, Option, Some, None, option_map, option_and_then, refl, sym, ap, ◌∙◌, subst, arith}
+use Rattle.std.proofs.Common.{◌≡◌, ℕ, zero, suc, ◌+◌, ◌-◌, ◌<◌, List, [], ◌∷◌, ◌++◌, length, Bool, true, false, Option, Some, None, option_map, option_and_then}
+use Rattle.std.proofs.Common.{refl, sym, ap, ◌∙◌, subst, arith}
 use Rattle.std.proofs.lemmas.List.{append_cancel_right}
 use Rattle.std.specs.Prelude.{IfSome, slice_get, nat_le, if◌then◌else◌}
 use Rattle.view_definitions.specs.Node.{Kind, container, attribute, empty, ui, Head, ViewNode, ViewNodes, text, element, none, more}
@@ -28,11 +29,13 @@ pub record Placed (nodes : ViewNodes) (offset base index : ℕ) (rest : List ℕ
   pub place : place_among 0 nodes number base ++ (next ∷ further) ≡ (base + index) ∷ rest
 
 module _ (inners : Inners) (open_items : Open inners) where
-  inside : (offset : ℕ) (place : List ℕ) (meant next : ℕ) (further : List ℕ) → in_item inners offset place ≡ Some (meant ∷ next ∷ further) → (meant ≡ offset) × (place ≡ next ∷ further)
+  inside : (offset : ℕ) (place : List ℕ) (meant next : ℕ) (further : List ℕ) → in_item inners offset place ≡ Some (meant ∷ next ∷ further)
+      → (meant ≡ offset) × (place ≡ next ∷ further)
   inside offset place meant next further e = go (slice_get inners offset) (open_items offset) e
     where
       go : (o : Option (List ℕ → Option (List ℕ))) → IfSome o (λ inner. (place : List ℕ) → inner place ≡ Some place)
-          → option_map (λ position. offset ∷ position) (option_and_then (λ inner. inner place) o) ≡ Some (meant ∷ next ∷ further) → (meant ≡ offset) × (place ≡ next ∷ further)
+          → option_map (λ position. offset ∷ position) (option_and_then (λ inner. inner place) o) ≡ Some (meant ∷ next ∷ further) → (meant ≡ offset)
+          × (place ≡ next ∷ further)
       go None h f = cc
       go (Some inner) h f =
           let k : Some (offset ∷ place) ≡ Some (meant ∷ next ∷ further) = ap (option_map (λ position. offset ∷ position)) (sym (h place)) ∙ f in
@@ -48,41 +51,48 @@ module _ (inners : Inners) (open_items : Open inners) where
   no_text offset scalars (index ∷ after ∷ rest) meant next further e = cc
 
   -- the first of the nodes holds it
-  first-placed : (node : ViewNode) (nodes : ViewNodes) (offset base number : ℕ) (rest : List ℕ) (meant next : ℕ) (further : List ℕ) → meant ≡ offset + number → number < model_length node
+  first-placed : (node : ViewNode) (nodes : ViewNodes) (offset base number : ℕ) (rest : List ℕ) (meant next : ℕ) (further : List ℕ)
+      → meant ≡ offset + number → number < model_length node
       → place_in 0 node number ++ (next ∷ further) ≡ rest → Placed (more node nodes) offset base 0 rest meant next further
   first-placed node nodes offset base number rest meant next further e b p = record {
     number = number;
     is = e;
     below = omega (arith, b);
     place =
-        ap (λ t. (if t then base ∷ place_in 0 node number else place_among 0 nodes (number - model_length node) (base + 1)) ++ (next ∷ further)) (below number (model_length node) b)
+        ap (λ t. (if t then base ∷ place_in 0 node number else place_among 0 nodes (number - model_length node) (base + 1)) ++ (next ∷ further))
+        (below number (model_length node) b)
         ∙ (let z : base ≡ base + 0 = omega arith in λ i. z i ∷ p i);
   }
 
   -- an element holds it, by its kind
-  in_kind : (head : Head) (kind : Kind) → head.kind ≡ kind → (children nodes : ViewNodes) (offset base : ℕ) (first : ℕ) (rest : List ℕ) (meant next : ℕ) (further : List ℕ)
+  in_kind : (head : Head) (kind : Kind) → head.kind ≡ kind
+      → (children nodes : ViewNodes) (offset base : ℕ) (first : ℕ) (rest : List ℕ) (meant next : ℕ) (further : List ℕ)
       → by_kind kind (meant_in inners offset children (first ∷ rest)) (in_item inners offset (first ∷ rest)) ≡ Some (meant ∷ next ∷ further)
       → (meant_in inners offset children (first ∷ rest) ≡ Some (meant ∷ next ∷ further) → Placed children offset 0 first rest meant next further)
       → Placed (more (element head children) nodes) offset base 0 (first ∷ rest) meant next further
   in_kind head container k children nodes offset base first rest meant next further e ih =
       let i = inside offset (first ∷ rest) meant next further e in
-      first-placed (element head children) nodes offset base 0 (first ∷ rest) meant next further (i.0 ∙ omega arith) (subst (λ kind. 0 < length_by_kind kind (inner_length children)) (sym k) (omega arith))
+      first-placed (element head children) nodes offset base 0 (first ∷ rest) meant next further (i.0 ∙ omega arith)
+      (subst (λ kind. 0 < length_by_kind kind (inner_length children)) (sym k) (omega arith))
       (ap (λ kind. by_around kind (place_among 0 children 0 0) [] ++ (next ∷ further)) k ∙ sym i.1)
   in_kind head (attribute priority id) k children nodes offset base first rest meant next further e ih =
       let p = ih e in
       let z : 0 + first ≡ first = omega arith in
-      first-placed (element head children) nodes offset base p.number (first ∷ rest) meant next further p.is (subst (λ kind. p.number < length_by_kind kind (inner_length children)) (sym k) p.below)
+      first-placed (element head children) nodes offset base p.number (first ∷ rest) meant next further p.is
+      (subst (λ kind. p.number < length_by_kind kind (inner_length children)) (sym k) p.below)
       (ap (λ kind. by_around kind (place_among 0 children p.number 0) [] ++ (next ∷ further)) k ∙ p.place ∙ ap (λ n. n ∷ rest) z)
   in_kind head empty k children nodes offset base first rest meant next further e ih =
       let i = inside offset (first ∷ rest) meant next further e in
-      first-placed (element head children) nodes offset base 0 (first ∷ rest) meant next further (i.0 ∙ omega arith) (subst (λ kind. 0 < length_by_kind kind (inner_length children)) (sym k) (omega arith))
+      first-placed (element head children) nodes offset base 0 (first ∷ rest) meant next further (i.0 ∙ omega arith)
+      (subst (λ kind. 0 < length_by_kind kind (inner_length children)) (sym k) (omega arith))
       (ap (λ kind. by_around kind (place_among 0 children 0 0) [] ++ (next ∷ further)) k ∙ sym i.1)
   in_kind head ui k children nodes offset base first rest meant next further e ih = cc
 
   mutual
     -- such a place in a node
     in_node : (node : ViewNode) (nodes : ViewNodes) (offset base : ℕ) (first : ℕ) (rest : List ℕ) (meant next : ℕ) (further : List ℕ)
-        → meant_in_node inners offset node (first ∷ rest) ≡ Some (meant ∷ next ∷ further) → Placed (more node nodes) offset base 0 (first ∷ rest) meant next further
+        → meant_in_node inners offset node (first ∷ rest) ≡ Some (meant ∷ next ∷ further)
+        → Placed (more node nodes) offset base 0 (first ∷ rest) meant next further
     in_node (text scalars) nodes offset base first rest meant next further e = absurd (no_text offset (length scalars) (first ∷ rest) meant next further e)
     in_node (element head children) nodes offset base first rest meant next further e =
         in_kind head head.kind refl children nodes offset base first rest meant next further e
@@ -106,7 +116,8 @@ module _ (inners : Inners) (open_items : Open inners) where
           place =
               let less : model_length node + p.number - model_length node ≡ p.number = omega arith in
               let far : base + 1 + index ≡ base + suc index = omega arith in
-              ap (λ t. (if t then base ∷ place_in 0 node (model_length node + p.number) else place_among 0 nodes (model_length node + p.number - model_length node) (base + 1)) ++ (next ∷ further))
+              ap (λ t. (if t then base ∷ place_in 0 node (model_length node + p.number)
+              else place_among 0 nodes (model_length node + p.number - model_length node) (base + 1)) ++ (next ∷ further))
               (above (model_length node + p.number) (model_length node) (omega arith))
               ∙ ap (λ n. place_among 0 nodes n (base + 1) ++ (next ∷ further)) less
               ∙ p.place
@@ -133,7 +144,8 @@ open-at count number place h = ap (λ o. option_map (λ position. number ∷ pos
     go (suc count) zero h = refl
     go (suc count) (suc number) h = go count number (omega (arith, h))
 
-found-place : (nodes : ViewNodes) (index : ℕ) (place : List ℕ) → meant_in (opens (suc index)) 0 nodes (place ++ 0 ∷ []) ≡ Some (index ∷ 0 ∷ []) → place_among 0 nodes index 0 ≡ place
+found-place : (nodes : ViewNodes) (index : ℕ) (place : List ℕ) → meant_in (opens (suc index)) 0 nodes (place ++ 0 ∷ []) ≡ Some (index ∷ 0 ∷ [])
+    → place_among 0 nodes index 0 ≡ place
 found-place none index [] e = cc
 found-place (more node nodes) index [] e = cc
 found-place nodes index (first ∷ rest) e =

@@ -1,5 +1,6 @@
 -- A walk through the nodes of a content reads what a place means there.
-use Rattle.std.proofs.Common.{◌≡◌, ℕ, zero, suc, ◌+◌, ◌^◌, ◌<◌, ◌≤◌, List, [], ◌∷◌, ◌++◌, length, take, true, false, Option, Some, None, option_and_then, refl, sym, ap, ◌∙◌, arith}
+use Rattle.std.proofs.Common.{◌≡◌, ℕ, zero, suc, ◌+◌, ◌^◌, ◌<◌, ◌≤◌, List, [], ◌∷◌, ◌++◌, length, take, true, false, Option, Some, None, option_and_then, refl}
+use Rattle.std.proofs.Common.{sym, ap, ◌∙◌, arith}
 use Rattle.std.proofs.lemmas.Bool.Decides.{nat_tests}
 use Rattle.std.specs.Prelude.{slice_get, if◌then◌else◌, nat_le}
 use Rattle.view_definitions.specs.Node.{Kind, container, attribute, empty, ui, ViewNode, ViewNodes, text, element, none, more, list_of}
@@ -34,7 +35,8 @@ module _ (slots : Slots) (inners : Inners) (depth : ℕ) where
   -- places in a view element are read as those in the item
   abbrev pub IsRead : ℕ → List ViewNode → Option ℕ → Type 0
   IsRead offset children number =
-      (path : List ℕ) (last : ℕ) → in_slot (reads slots path last) depth offset children (option_and_then slots number) ≡ in_item inners offset (path ++ last ∷ [])
+      (path : List ℕ) (last : ℕ) → in_slot (reads slots path last) depth offset children (option_and_then slots number)
+      ≡ in_item inners offset (path ++ last ∷ [])
 
   abbrev mutual
     -- nodes with numbers and nodes without them, before which so many items are shown
@@ -51,7 +53,8 @@ module _ (slots : Slots) (inners : Inners) (depth : ℕ) where
     Match offset (more node nodes) none = ⊥
     Match offset (more node nodes) (more other others) = MatchNode offset node other × Match (offset + model_length other) nodes others
 
-  kind-length : (offset : ℕ) (kind : Kind) (children inner : ViewNodes) (Inside : Type 0) → (Match offset children inner → inner_length children ≡ inner_length inner)
+  kind-length : (offset : ℕ) (kind : Kind) (children inner : ViewNodes) (Inside : Type 0)
+      → (Match offset children inner → inner_length children ≡ inner_length inner)
       → ByKind kind (Match offset children inner) Inside → length_by_kind kind (inner_length children) ≡ length_by_kind kind (inner_length inner)
   kind-length offset container children inner Inside ih m = refl
   kind-length offset (attribute priority id) children inner Inside ih m = ih m
@@ -79,7 +82,8 @@ module _ (slots : Slots) (inners : Inners) (depth : ℕ) where
 
   first-between : (offset : ℕ) (nodes : List ViewNode) → offset < 2 ^ 32 → between_nodes offset nodes 0 ≡ Some (offset ∷ [])
   first-between offset nodes b =
-      ap (λ t. if t then only_number (in_position (offset + 0)) else None) (from_first (length nodes)) ∙ ap only_number (fits (offset + 0) (omega (arith, b)) ∙ ap Some (omega arith))
+      ap (λ t. if t then only_number (in_position (offset + 0)) else None) (from_first (length nodes))
+      ∙ ap only_number (fits (offset + 0) (omega (arith, b)) ∙ ap Some (omega arith))
 
   between-later : (offset count : ℕ) (node : ViewNode) (nodes : List ViewNode) (index : ℕ) → model_length node ≡ count
       → between_nodes offset (node ∷ nodes) (suc index) ≡ between_nodes (offset + count) nodes index
@@ -100,9 +104,11 @@ module _ (slots : Slots) (inners : Inners) (depth : ℕ) where
 
   -- ---- a place in a text
 
-  in_one_text : (offset scalars : ℕ) (path : List ℕ) (last : ℕ) → offset + scalars < 2 ^ 32 → in_text offset scalars path last ≡ meant.in_text offset scalars (path ++ last ∷ [])
+  in_one_text : (offset scalars : ℕ) (path : List ℕ) (last : ℕ) → offset + scalars < 2 ^ 32 → in_text offset scalars path last
+      ≡ meant.in_text offset scalars (path ++ last ∷ [])
   in_one_text offset scalars [] last b =
-      elim (nat_le last scalars) as (λ t. nat_le last scalars ≡ t → (if t then only_number (in_position (offset + last)) else None) ≡ (if t then Some ((offset + last) ∷ []) else None)) [
+      elim (nat_le last scalars) as (λ t. nat_le last scalars ≡ t → (if t then only_number (in_position (offset + last)) else None)
+      ≡ (if t then Some ((offset + last) ∷ []) else None)) [
         | true ↦ λ t. (let w : last ≤ scalars = is_within last scalars t in ap only_number (fits (offset + last) (omega (arith, b, w))))
         | false ↦ λ t. refl
       ] refl
@@ -119,7 +125,8 @@ module _ (slots : Slots) (inners : Inners) (depth : ℕ) where
 
   by-kind : (path : List ℕ) (last offset : ℕ) (kind : Kind) (children inner : ViewNodes) (number : Option ℕ) → Reads path last
       → ByKind kind (Match offset children inner) (IsRead offset (list_of children) number) → offset + length_by_kind kind (inner_length inner) < 2 ^ 32
-      → by_kind kind (read slots depth [] 0 offset (list_of children) path last) (in_slot (reads slots path last) depth offset (list_of children) (option_and_then slots number))
+      → by_kind kind (read slots depth [] 0 offset (list_of children) path last)
+      (in_slot (reads slots path last) depth offset (list_of children) (option_and_then slots number))
       ≡ by_kind kind (meant_in inners offset inner (path ++ last ∷ [])) (in_item inners offset (path ++ last ∷ []))
   by-kind path last offset container children inner number ih m b = m path last
   by-kind path last offset (attribute priority id) children inner number ih m b = ih offset children inner m b
@@ -133,12 +140,14 @@ module _ (slots : Slots) (inners : Inners) (depth : ℕ) where
   in_one path last offset (text scalars) (element other inner) ih m b = absurd m
   in_one path last offset (element head children) (text others) ih m b = absurd m
   in_one path last offset (element head children) (element other inner) ih m b =
-      ap (λ kind. by_kind kind (read slots depth [] 0 offset (list_of children) path last) (in_slot (reads slots path last) depth offset (list_of children) (option_and_then slots head.number))) m.0
+      ap (λ kind. by_kind kind (read slots depth [] 0 offset (list_of children) path last)
+      (in_slot (reads slots path last) depth offset (list_of children) (option_and_then slots head.number))) m.0
       ∙ by-kind path last offset other.kind children inner head.number ih m.1 b
 
   -- ---- a place among nodes
 
-  first-meant : (offset : ℕ) (node : ViewNode) (nodes : ViewNodes) (path : List ℕ) (last : ℕ) → meant_in inners offset (more node nodes) (zero ∷ (path ++ last ∷ [])) ≡ meant_in_node inners offset node (path ++ last ∷ [])
+  first-meant : (offset : ℕ) (node : ViewNode) (nodes : ViewNodes) (path : List ℕ) (last : ℕ)
+      → meant_in inners offset (more node nodes) (zero ∷ (path ++ last ∷ [])) ≡ meant_in_node inners offset node (path ++ last ∷ [])
   first-meant offset node nodes [] last = refl
   first-meant offset node nodes (index ∷ path) last = refl
 
@@ -148,17 +157,21 @@ module _ (slots : Slots) (inners : Inners) (depth : ℕ) where
   none-meant offset (suc index) path last = refl
 
   nodes-later : (path : List ℕ) (last offset count : ℕ) (node : ViewNode) (nodes : List ViewNode) (index : ℕ) → model_length node ≡ count
-      → in_nodes slots (reads slots path last) depth path last offset (node ∷ nodes) (suc index) ≡ in_nodes slots (reads slots path last) depth path last (offset + count) nodes index
+      → in_nodes slots (reads slots path last) depth path last offset (node ∷ nodes) (suc index)
+      ≡ in_nodes slots (reads slots path last) depth path last (offset + count) nodes index
   nodes-later path last offset count node nodes index e =
-      ap (λ n. option_and_then (λ node. option_and_then (λ before. in_node slots (reads slots path last) depth path last before node) (in_position n)) (slice_get nodes index)) (omega (arith, e))
+      ap (λ n. option_and_then (λ node. option_and_then (λ before. in_node slots (reads slots path last) depth path last before node) (in_position n))
+      (slice_get nodes index)) (omega (arith, e))
 
-  among : (path : List ℕ) (last offset : ℕ) (nodes others : ViewNodes) (index : ℕ) → Reads path last → Match offset nodes others → offset + inner_length others < 2 ^ 32
+  among : (path : List ℕ) (last offset : ℕ) (nodes others : ViewNodes) (index : ℕ) → Reads path last → Match offset nodes others
+      → offset + inner_length others < 2 ^ 32
       → in_nodes slots (reads slots path last) depth path last offset (list_of nodes) index ≡ meant_in inners offset others (index ∷ (path ++ last ∷ []))
   among path last offset none none index ih m b = sym (none-meant offset index path last)
   among path last offset none (more other others) index ih m b = absurd m
   among path last offset (more node nodes) none index ih m b = absurd m
   among path last offset (more node nodes) (more other others) zero ih m b =
-      ap (option_and_then (λ before. in_node slots (reads slots path last) depth path last before node)) (fits (offset + 0) (omega (arith, b)) ∙ ap Some (omega arith))
+      ap (option_and_then (λ before. in_node slots (reads slots path last) depth path last before node)) (fits (offset + 0) (omega (arith, b))
+      ∙ ap Some (omega arith))
       ∙ in_one path last offset node other ih m.0 (omega (arith, b))
       ∙ sym (first-meant offset other others path last)
   among path last offset (more node nodes) (more other others) (suc index) ih m b =

@@ -6,7 +6,8 @@ use Rattle.pos_mapper.specs.Bindings.{Slot, Binding, CaretPlace, Mapper}
 -- a code for slots
 abbrev pub coded_slot : Coded Slot
 coded_slot =
-    code_by (List ℕ × ℕ) (coded× (coded_list coded_ℕ) coded_ℕ) (λ slot. (slot.place, slot.behind)) (λ parts. record { place = parts.0; behind = parts.1 }) (λ _. refl)
+    code_by (List ℕ × ℕ) (coded× (coded_list coded_ℕ) coded_ℕ) (λ slot. (slot.place, slot.behind))
+    (λ parts. record { place = parts.0; behind = parts.1 }) (λ _. refl)
 
 -- a code for bindings
 abbrev pub coded_binding : Coded Binding
@@ -17,7 +18,8 @@ coded_binding =
 -- a code for the caret's place
 abbrev pub coded_caret : Coded CaretPlace
 coded_caret =
-    code_by (List ℕ × List ℕ) (coded× (coded_list coded_ℕ) (coded_list coded_ℕ)) (λ caret. (caret.at, caret.place)) (λ parts. record { at = parts.0; place = parts.1 }) (λ _. refl)
+    code_by (List ℕ × List ℕ) (coded× (coded_list coded_ℕ) (coded_list coded_ℕ)) (λ caret. (caret.at, caret.place))
+    (λ parts. record { at = parts.0; place = parts.1 }) (λ _. refl)
 
 -- a code for mappers
 abbrev pub coded_mapper : Coded Mapper

@@ -43,7 +43,8 @@ abbrev mutual
   pub IsBound : Mapper → Scene → List ℕ → ℕ → Item → Type 0
   IsBound mapper scene parent before (items.character scalar attributes) = Unit {0}
   IsBound mapper scene parent before (items.element id name attributes children) =
-      IsSomeAnd (bound_id id mapper) (λ binding. option_map (λ bound. bound.slot) (bound_number binding.number mapper) ≡ Some (slot_of (shape_at scene.conversion parent before name attributes).form))
+      IsSomeAnd (bound_id id mapper) (λ binding. option_map (λ bound. bound.slot) (bound_number binding.number mapper)
+      ≡ Some (slot_of (shape_at scene.conversion parent before name attributes).form))
       × AreBound mapper scene name 0 children
 
   -- each of these items is bound so
@@ -71,9 +72,11 @@ pub record IsMapped (conversion : Conversion) (document : Document) (mapper : Ma
 -- That a place of the view means this, in each document that a mapper and the view's nodes are of: None where it means no position
 abbrev pub Means : Mapper → List ViewNode → List ℕ → Option (List ℕ) → Type 0
 Means mapper nodes place position =
-    (conversion : Conversion) (document : Document) → IsMapped conversion document mapper nodes → IsTree document.items → meant conversion document place ≡ position
+    (conversion : Conversion) (document : Document) → IsMapped conversion document mapper nodes → IsTree document.items
+    → meant conversion document place ≡ position
 
 -- That a position is seen at this place, in each document that a mapper and the view's nodes are of and that has the position
 abbrev pub Shows : Mapper → List ViewNode → List ℕ → List ℕ → Type 0
 Shows mapper nodes position place =
-    (conversion : Conversion) (document : Document) → IsMapped conversion document mapper nodes → IsIn document.items position → seen conversion document position ≡ place
+    (conversion : Conversion) (document : Document) → IsMapped conversion document mapper nodes → IsIn document.items position
+    → seen conversion document position ≡ place

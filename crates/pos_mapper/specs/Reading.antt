@@ -1,5 +1,6 @@
 -- What a place means, read from the nodes of a view and the slots of the view elements with numbers.
-use Rattle.std.specs.Prelude.{ℕ, ◌+◌, ◌-◌, ◌^◌, ◌==◌, nat_le, nat_lt, List, [], ◌∷◌, length, take, drop, Option, Some, None, option_map, option_and_then, slice_get, if◌then◌else◌}
+use Rattle.std.specs.Prelude.{ℕ, ◌+◌, ◌-◌, ◌^◌, ◌==◌, nat_le, nat_lt, List, [], ◌∷◌, length, take, drop, Option, Some, None, option_map, option_and_then}
+use Rattle.std.specs.Prelude.{slice_get, if◌then◌else◌}
 use Rattle.std.specs.List.{find}
 use Rattle.view_definitions.specs.Node.{ViewNode, text, element, list_of, nodes_of, children_of}
 use Rattle.downcast_definitions.specs.Meant.{by_kind, inner_length}
@@ -62,7 +63,8 @@ in_node slots below depth path last offset (element head children) =
 -- what a place in the node with this index means
 abbrev pub in_nodes : Slots → Below → ℕ → List ℕ → ℕ → ℕ → List ViewNode → ℕ → Option (List ℕ)
 in_nodes slots below depth path last offset nodes index =
-    option_and_then (λ node. option_and_then (λ before. in_node slots below depth path last before node) (before_node offset index nodes)) (slice_get nodes index)
+    option_and_then (λ node. option_and_then (λ before. in_node slots below depth path last before node) (before_node offset index nodes))
+    (slice_get nodes index)
 
 -- one step on the way: to the children of the node at this index
 abbrev pub at_step : {A : Type 0} → ℕ → List ViewNode → ℕ → (List ViewNode → Option A) → Option A

@@ -305,7 +305,8 @@ fn inside_step<'a>(
     way: &[u64],
     behind: u64,
 ) -> Option<&'a [Detached]>
-    ensures nodes { option_copied result ≡ option_and_then (λ node. option_and_then (λ children. inside way.now behind children) (children_of node)) (slice_get nodes.now step) }
+    ensures nodes { option_copied result ≡ option_and_then (λ node. option_and_then (λ children. inside way.now behind children) (children_of node))
+        (slice_get nodes.now step) }
     ensures small { IfSome result (λ nodes. offset_of way.now + length nodes.now < 2 ^ 64) }
 {
     let Some(node) = nodes.get(step as usize) else {
@@ -372,7 +373,8 @@ fn push_in_item(
 ) -> Result<(), NoMemory>
     requires { base + length nodes.now < 2 ^ 64 }
     ensures { OnOk result (place.new.items ≡ place.old.items
-        ++ in_item (λ first inner. shown_at (slots_in sought.now.table.now) (below_index index (option_copied sought.now.caret)) sought.now.caret_place.now first inner rest.now)
+        ++ in_item (λ first inner. shown_at (slots_in sought.now.table.now) (below_index index (option_copied sought.now.caret))
+        sought.now.caret_place.now first inner rest.now)
         (seen_at (option_copied sought.now.caret) sought.now.caret_place.now base nodes.now index) (place_among 0 (nodes_of nodes.now) index base)
         (children_at (item_among (nodes_of nodes.now) index)) (slot_at (slots_in sought.now.table.now) (item_among (nodes_of nodes.now) index))) }
 {

@@ -47,7 +47,8 @@ abbrev mutual
   item_text ends offset before (character scalar attributes) =
       before_character (goes_on before attributes) before attributes (outer_marks ends offset) ++ printed_scalar scalar
   item_text ends offset before (element id name attributes children) =
-      run_end before ++ (outer_marks ends offset ++ (open_tag name (attributes_text attributes) ++ (inner_items_text (inside offset ends) 0 None children ++ close_tag name)))
+      run_end before ++ (outer_marks ends offset
+      ++ (open_tag name (attributes_text attributes) ++ (inner_items_text (inside offset ends) 0 None children ++ close_tag name)))
 
   -- the items in an element from an offset on, behind a run or not, with the marks before each and behind the last
   pub inner_items_text : Ends → ℕ → Option Attributes → Items → List ℕ

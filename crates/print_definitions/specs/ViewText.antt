@@ -18,7 +18,8 @@ abbrev mutual
   -- a text, or an element as its tags with its children between them
   pub node_text : Ends → ViewNode → List ℕ
   node_text ends (text scalars) = scalars_text ends scalars
-  node_text ends (element head children) = open_tag head.name (view_attributes_text head.attributes) ++ (inner_nodes_text ends 0 children ++ close_tag head.name)
+  node_text ends (element head children) = open_tag head.name (view_attributes_text head.attributes)
+      ++ (inner_nodes_text ends 0 children ++ close_tag head.name)
 
   -- the nodes in an element from an index on, with the marks before each and behind the last
   pub inner_nodes_text : Ends → ℕ → ViewNodes → List ℕ

@@ -16,9 +16,11 @@ inner_is ends index (more node nodes) = ap (λ t. outer_marks ends index ++ (nod
 -- what a node that shows this, with these children, is printed as
 abbrev pub shown_text : Ends → NodeRef → List ViewNode → List ℕ
 shown_text ends (Text scalars) children = scalars_text ends scalars.now
-shown_text ends (Element kind name attrs number count) children = open_tag name.now (view_attributes_text attrs.now) ++ (nodes_text ends 0 children ++ close_tag name.now)
+shown_text ends (Element kind name attrs number count) children = open_tag name.now (view_attributes_text attrs.now)
+    ++ (nodes_text ends 0 children ++ close_tag name.now)
 
-pub text_of_shown : (ends : Ends) (shown : NodeRef) (node : ViewNode) (list : List ViewNode) → Shows shown node → Some list ≡ children_of node → shown_text ends shown list ≡ node_text ends node
+pub text_of_shown : (ends : Ends) (shown : NodeRef) (node : ViewNode) (list : List ViewNode) → Shows shown node → Some list ≡ children_of node
+    → shown_text ends shown list ≡ node_text ends node
 text_of_shown ends (Text scalars) (text own) list s e = absurd cc
 text_of_shown ends (Text scalars) (element head children) list s e = absurd s
 text_of_shown ends (Element kind name attrs number count) (text own) list s e = absurd s

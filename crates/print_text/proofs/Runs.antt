@@ -1,5 +1,6 @@
 -- The printed text of a node in front of that of other items.
-use Rattle.std.proofs.Common.{◌≡◌, ℕ, zero, suc, ◌+◌, ◌≤◌, ◌^◌, List, [], ◌∷◌, ◌++◌, map, length, drop, Bool, true, false, Option, Some, None, refl, sym, ap, ◌∙◌, append_assoc, arith}
+use Rattle.std.proofs.Common.{◌≡◌, ℕ, zero, suc, ◌+◌, ◌≤◌, ◌^◌, List, [], ◌∷◌, ◌++◌, map, length, drop, Bool, true, false, Option, Some, None, refl, sym, ap}
+use Rattle.std.proofs.Common.{◌∙◌, append_assoc, arith}
 use Rattle.std.specs.Prelude.{IsTrue, ◌↔◌, ◌<◌}
 use Rattle.print_definitions.proofs.Runs.{own_attributes, equal_attributes, going, length_run}
 use Rattle.item_definitions.specs.Item.{Item, Attributes, character, items_of, depth_of, count_of}
@@ -26,12 +27,14 @@ same_is attributes others test h = go test (same_attributes attributes others) r
     go true false t u h = (let same : attributes ≡ others = h.0 (sym t) in sym t ∙ sym (ap (same_attributes attributes) (sym same) ∙ own_attributes attributes))
     go false true t u h = (let same : attributes ≡ others = equal_attributes attributes others (sym u) in absurd (apart test (sym t) (h.1 same)))
 
-inner_is : (ends : Ends) (offset : ℕ) (before : Option Attributes) (items : List Item) → inner_items_text ends offset before (items_of items) ≡ items_text ends offset before items
+inner_is : (ends : Ends) (offset : ℕ) (before : Option Attributes) (items : List Item) → inner_items_text ends offset before (items_of items)
+    ≡ items_text ends offset before items
 inner_is ends offset before [] = refl
 inner_is ends offset before (item ∷ items) = ap (λ t. item_text ends offset before item ++ t) (inner_is ends (offset + 1) (run_of item) items)
 
 run_placed : (ends : Ends) (offset : ℕ) (before : Option Attributes) (attributes : Attributes) (scalars : List ℕ) (rest : List Item)
-    → items_text ends offset before (map (λ scalar. character scalar attributes) scalars ++ rest) ≡ run_text ends offset before attributes scalars ++ items_text ends (offset + length scalars) (open_behind before attributes scalars) rest
+    → items_text ends offset before (map (λ scalar. character scalar attributes) scalars ++ rest) ≡ run_text ends offset before attributes scalars
+    ++ items_text ends (offset + length scalars) (open_behind before attributes scalars) rest
 run_placed ends offset before attributes [] rest = ap (λ at. items_text ends at before rest) (omega arith)
 run_placed ends offset before attributes (scalar ∷ scalars) rest =
     let start = before_character (goes_on before attributes) before attributes (outer_marks ends offset) in
@@ -43,12 +46,15 @@ run_placed ends offset before attributes (scalar ∷ scalars) rest =
 
 -- a node in front of other items
 pub node_placed : (ends : Ends) (offset : ℕ) (before : Option Attributes) (node : Node) (rest : List Item)
-    → items_text ends offset before (items_at node ++ rest) ≡ node_text ends offset before node ++ items_text ends (offset + length (items_at node)) (run_behind before node) rest
+    → items_text ends offset before (items_at node ++ rest) ≡ node_text ends offset before node ++ items_text ends (offset + length (items_at node))
+    (run_behind before node) rest
 node_placed ends offset before (Run text) rest =
     run_placed ends offset before text.attributes text.scalars rest
-    ∙ ap (λ count. run_text ends offset before text.attributes text.scalars ++ items_text ends (offset + count) (open_behind before text.attributes text.scalars) rest) (sym (length_run text.attributes text.scalars))
+    ∙ ap (λ count. run_text ends offset before text.attributes text.scalars ++ items_text ends (offset + count)
+    (open_behind before text.attributes text.scalars) rest) (sym (length_run text.attributes text.scalars))
 node_placed ends offset before (Element head children) rest =
-    ap (λ t. (run_end before ++ (outer_marks ends offset ++ (open_tag head.name (attributes_text head.attributes) ++ (t ++ close_tag head.name)))) ++ items_text ends (offset + 1) None rest) (inner_is (inside offset ends) 0 None children)
+    ap (λ t. (run_end before ++ (outer_marks ends offset ++ (open_tag head.name (attributes_text head.attributes) ++ (t ++ close_tag head.name))))
+    ++ items_text ends (offset + 1) None rest) (inner_is (inside offset ends) 0 None children)
 
 -- what is there and what is still to come, where a node is put last
 pub put_node : (ends : Ends) (offset later : ℕ) (before behind : Option Attributes) (node : Node) (old new : List ℕ) (here rest : List Item)
@@ -76,8 +82,11 @@ length_both [] back = omega arith
 length_both (item ∷ front) back = omega (arith, length_both front back)
 
 -- the bounds at a node: it has no more items than all, and its offset is no greater than how many there are
-pub few_items : (nodes : List Node) (index : ℕ) (node : Node) (rest all : List Item) → items_in (drop index nodes) ≡ items_at node ++ rest → items_in nodes ≡ all → count_of all < 2 ^ 32 → count_of (items_at node) < 2 ^ 32
-few_items nodes index node rest all next whole few = omega (arith, few, ap count_of whole, counted index nodes, ap count_of next, count-append (items_at node) rest)
+pub few_items : (nodes : List Node) (index : ℕ) (node : Node) (rest all : List Item) → items_in (drop index nodes) ≡ items_at node ++ rest
+    → items_in nodes ≡ all → count_of all < 2 ^ 32 → count_of (items_at node) < 2 ^ 32
+few_items nodes index node rest all next whole few =
+    omega (arith, few, ap count_of whole, counted index nodes, ap count_of next, count-append (items_at node) rest)
 
-pub within_all : (here all : List Item) (offset : ℕ) (node : Node) (rest : List Item) → here ≡ items_at node ++ rest → offset + length here ≡ length all → offset + length (items_at node) + length rest ≡ length all
+pub within_all : (here all : List Item) (offset : ℕ) (node : Node) (rest : List Item) → here ≡ items_at node ++ rest → offset + length here ≡ length all
+    → offset + length (items_at node) + length rest ≡ length all
 within_all here all offset node rest next e = omega (arith, e, ap length next, length_both (items_at node) rest)

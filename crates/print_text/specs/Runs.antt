@@ -22,12 +22,14 @@ run_behind before (Element head children) = None
 abbrev pub run_text : Ends → ℕ → Option Attributes → Attributes → List ℕ → List ℕ
 run_text ends offset before attributes [] = []
 run_text ends offset before attributes (scalar ∷ scalars) =
-    before_character (goes_on before attributes) before attributes (outer_marks ends offset) ++ (printed_scalar scalar ++ marked (outer_marks ends) (offset + 1) scalars)
+    before_character (goes_on before attributes) before attributes (outer_marks ends offset)
+    ++ (printed_scalar scalar ++ marked (outer_marks ends) (offset + 1) scalars)
 
 -- an element with these items in it, behind a run or not
 abbrev pub element_text : Ends → ℕ → Option Attributes → List ℕ → Attributes → List Item → List ℕ
 element_text ends offset before name attributes children =
-    run_end before ++ (outer_marks ends offset ++ (open_tag name (attributes_text attributes) ++ (items_text (inside offset ends) 0 None children ++ close_tag name)))
+    run_end before ++ (outer_marks ends offset
+    ++ (open_tag name (attributes_text attributes) ++ (items_text (inside offset ends) 0 None children ++ close_tag name)))
 
 -- a node: a run, or an element
 abbrev pub node_text : Ends → ℕ → Option Attributes → Node → List ℕ

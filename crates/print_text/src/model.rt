@@ -147,7 +147,8 @@ fn push_before(
     attrs: &Attrs,
 ) -> Result<(), NoMemory>
     ensures { OnOk result (string_bytes out.new ≡ string_bytes out.old
-        ++ before_character (goes_on (option_copied before.entry) attrs.now) (option_copied before.entry) attrs.now (outer_marks (places_of marks.entry) offset)) }
+        ++ before_character (goes_on (option_copied before.entry) attrs.now) (option_copied before.entry) attrs.now
+        (outer_marks (places_of marks.entry) offset)) }
 {
     if goes_on(before, attrs) {
         return marks.push(out, Brackets::Square, offset);

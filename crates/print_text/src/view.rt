@@ -93,7 +93,8 @@ fn push_element(
     marks: Marks<'_>,
 ) -> Result<(), NoMemory>
     ensures { OnOk result (string_bytes out.new
-        ≡ string_bytes out.old ++ (open_tag name.now (view_attributes_text attrs.now) ++ (nodes_text (places_of marks.entry) 0 children.now.nodes ++ close_tag name.now))) }
+        ≡ string_bytes out.old ++ (open_tag name.now (view_attributes_text attrs.now)
+        ++ (nodes_text (places_of marks.entry) 0 children.now.nodes ++ close_tag name.now))) }
 {
     push_start(out, children.allocator(), name, attrs)?;
     push_nodes(out, children, marks)?;

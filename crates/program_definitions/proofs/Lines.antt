@@ -31,10 +31,12 @@ module _ (machine : Machine) (number : ℕ) where
   moves (Err refusal) obeys = stays machine
 
   edits : (chosen : Result (List Edit) Refusal) → Follows machine (told machine number (edited machine chosen)).machine
-  edits (Ok chosen) = moves (step machine.config.terms chosen machine.document) (λ document e. step_obeys machine.config.terms chosen machine.document document e)
+  edits (Ok chosen) = moves (step machine.config.terms chosen machine.document)
+      (λ document e. step_obeys machine.config.terms chosen machine.document document e)
   edits (Err refusal) = stays machine
 
-  counts : (spent : Bool) (chosen : Result (List Edit) Refusal) → Follows machine (told machine number (if spent then Err ChangesSpent else edited machine chosen)).machine
+  counts : (spent : Bool) (chosen : Result (List Edit) Refusal)
+      → Follows machine (told machine number (if spent then Err ChangesSpent else edited machine chosen)).machine
   counts true chosen = stays machine
   counts false chosen = edits chosen
 

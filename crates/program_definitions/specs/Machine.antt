@@ -93,7 +93,8 @@ seen_ends conversion document =
 abbrev pub shown_lines : Conversion → ℕ → Bool → Document → List ℕ
 shown_lines conversion number false document = both_lines number (model_text None document.items) (view_text None (downcast conversion document))
 shown_lines conversion number true document =
-    both_lines number (model_text (Some (selected_ends document)) document.items) (view_text (Some (seen_ends conversion document)) (downcast conversion document))
+    both_lines number (model_text (Some (selected_ends document)) document.items)
+    (view_text (Some (seen_ends conversion document)) (downcast conversion document))
     ++ (marker_lines number document.markers ++ selection_line number document.selection.backward (attributes document.items document.selection))
 
 -- the machine then, and the bytes of the answer
@@ -115,7 +116,8 @@ refusal_of NoMemory = NoMemoryLine
 -- the answer to a request
 abbrev pub answer_to : Machine → ℕ → Result Request FormFault → Answered
 answer_to machine number (Ok (Change edits)) = told machine number (change edits machine)
-answer_to machine number (Ok (SelectView anchor focus)) = told machine number (select_view (anchor.path ++ anchor.offset ∷ []) (focus.path ++ focus.offset ∷ []) machine)
+answer_to machine number (Ok (SelectView anchor focus)) =
+    told machine number (select_view (anchor.path ++ anchor.offset ∷ []) (focus.path ++ focus.offset ∷ []) machine)
 answer_to machine number (Ok (Show selection)) = record { machine = machine; text = shown_lines machine.config.conversion number selection machine.document }
 answer_to machine number (Err fault) = told machine number (Err (refusal_of fault))
 

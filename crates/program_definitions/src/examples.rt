@@ -16,7 +16,8 @@ pub fn words()
 
 /// A script that inserts `Hi` into a paragraph and shows it, with its output; then a line of no form.
 pub fn hello()
-    ensures { answers machine 1 (lines_of (codes "{\"do\":\"change\",\"edits\":[{\"edit\":\"insertText\",\"at\":[0,0],\"text\":\"Hi\"}]}\n{\"do\":\"show\",\"selection\":false}\n{\"do\":\"fly\"}"))
+    ensures { answers machine 1 (lines_of
+        (codes "{\"do\":\"change\",\"edits\":[{\"edit\":\"insertText\",\"at\":[0,0],\"text\":\"Hi\"}]}\n{\"do\":\"show\",\"selection\":false}\n{\"do\":\"fly\"}"))
         ≡ codes "1 ok\n2 model <paragraph>Hi</paragraph>\n2 view <p>Hi</p>\n3 refused BadField /do\n" }
 {}
 
@@ -24,7 +25,8 @@ pub fn hello()
 pub fn clicks()
     ensures shown { answers machine 1 (lines_of (codes "{\"do\":\"show\"}"))
         ≡ codes "1 model <paragraph>[]</paragraph>\n1 view <p>[]</p>\n1 selection forward\n" }
-    ensures clicked { answers machine 1 (lines_of (codes "{\"do\":\"change\",\"edits\":[{\"edit\":\"insertText\",\"at\":[0,0],\"text\":\"Hi\"}]}\n{\"do\":\"selectView\",\"anchor\":[0,0,1],\"focus\":[0,0,1]}\n{\"do\":\"show\"}"))
+    ensures clicked { answers machine 1
+        (lines_of (codes "{\"do\":\"change\",\"edits\":[{\"edit\":\"insertText\",\"at\":[0,0],\"text\":\"Hi\"}]}\n{\"do\":\"selectView\",\"anchor\":[0,0,1],\"focus\":[0,0,1]}\n{\"do\":\"show\"}"))
         ≡ codes "1 ok\n2 ok\n3 model <paragraph>H[]i</paragraph>\n3 view <p>H{}i</p>\n3 selection forward\n" }
     ensures nowhere { answers machine 1 (lines_of (codes "{\"do\":\"selectView\",\"anchor\":[0,1,0],\"focus\":[0,0]}"))
         ≡ codes "1 refused NotInView [0,1,0]\n" }

@@ -35,7 +35,9 @@ has_only x name h = elim (or_cases (bytes_eq x name) false h) [ inl e ↦ same_n
 
 -- the first pair leads
 pub leads_first : (pair : List ℕ × List ℕ) (pairs : List (List ℕ × List ℕ)) → leads (pair ∷ pairs) pair.0 pair.1 ≡ true
-leads_first pair pairs = or_left (bytes_eq pair.0 pair.0 && bytes_eq pair.1 pair.1) (leads pairs pair.0 pair.1) (and_from (bytes_eq pair.0 pair.0) (bytes_eq pair.1 pair.1) (itself pair.0) (itself pair.1))
+leads_first pair pairs = or_left (bytes_eq pair.0 pair.0 && bytes_eq pair.1 pair.1) (leads pairs pair.0 pair.1)
+    (and_from (bytes_eq pair.0 pair.0) (bytes_eq pair.1 pair.1) (itself pair.0) (itself pair.1))
 
-pub leads_later : (pair : List ℕ × List ℕ) (pairs : List (List ℕ × List ℕ)) (from to : List ℕ) → leads pairs from to ≡ true → leads (pair ∷ pairs) from to ≡ true
+pub leads_later : (pair : List ℕ × List ℕ) (pairs : List (List ℕ × List ℕ)) (from to : List ℕ) → leads pairs from to ≡ true
+    → leads (pair ∷ pairs) from to ≡ true
 leads_later pair pairs from to h = or_right (bytes_eq pair.0 from && bytes_eq pair.1 to) (leads pairs from to) h

@@ -1,6 +1,7 @@
 -- What a schema allows: its rules are the entries, the predefined ones among them, and the checks. Ancestors are given from the
 -- root on.
-use Rattle.std.specs.Prelude.{ℕ, List, [], ◌∷◌, ◌++◌, Bool, true, false, ◌&&◌, ◌||◌, if◌then◌else◌, Option, Some, None, option_map, unwrap_or, map, reverse, length}
+use Rattle.std.specs.Prelude.{ℕ, List, [], ◌∷◌, ◌++◌, Bool, true, false, ◌&&◌, ◌||◌, if◌then◌else◌, Option, Some, None, option_map, unwrap_or, map, reverse}
+use Rattle.std.specs.Prelude.{length}
 use Rattle.std.specs.List.{filter, find, ends_with}
 use Rattle.std.specs.Str.{bytes_eq}
 use Rattle.schema_definitions.specs.declared.file.Entry.{Entry}
@@ -39,7 +40,8 @@ is_inline rules item = has_flag rules.entries Inline item
 
 -- whether an item is an object: its flag is set, or it is a limit, selectable and content. (After `Schema.isObject`.)
 abbrev pub is_object : Rules → List ℕ → Bool
-is_object rules item = has_flag rules.entries Object item || (has_flag rules.entries Limit item && has_flag rules.entries Selectable item && has_flag rules.entries Content item)
+is_object rules item = has_flag rules.entries Object item
+    || (has_flag rules.entries Limit item && has_flag rules.entries Selectable item && has_flag rules.entries Content item)
 
 -- whether an item is a limit: its flag is set, or it is an object. (After `Schema.isLimit`.)
 abbrev pub is_limit : Rules → List ℕ → Bool
@@ -88,7 +90,8 @@ attribute_answer checks names key = option_map answer_of (find (is_about_attribu
 -- root passes.
 abbrev pub passes : Rules → List ℕ → List (List ℕ) → Bool
 passes rules item [] = true
-passes rules item (parent ∷ above) = unwrap_or (child_answer rules.checks (reverse (parent ∷ above)) item) (stands_in rules.entries item parent && passes rules parent above)
+passes rules item (parent ∷ above) = unwrap_or (child_answer rules.checks (reverse (parent ∷ above)) item) (stands_in rules.entries item parent
+    && passes rules parent above)
 
 -- whether an item may stand behind these ancestors; without any, nothing may
 unfoldable pub check_child : Rules → List (List ℕ) → List ℕ → Bool
@@ -102,7 +105,8 @@ check_attribute rules ancestors item key = unwrap_or (attribute_answer rules.che
 -- from the innermost ancestor upwards: how many remain with the first that allows the item; a limit that doesn't is the last tried
 abbrev pub allowed_above : Rules → List ℕ → List (List ℕ) → Option ℕ
 allowed_above rules item [] = None
-allowed_above rules item (parent ∷ above) = if check_child rules (reverse (parent ∷ above)) item then Some (length (parent ∷ above)) else (if is_limit rules parent then None else allowed_above rules item above)
+allowed_above rules item (parent ∷ above) = if check_child rules (reverse (parent ∷ above)) item then Some (length (parent ∷ above))
+    else (if is_limit rules parent then None else allowed_above rules item above)
 
 -- how many of the ancestors remain, counted from the root, with the innermost that allows the item, or a limit below it. (After `Schema.findAllowedParent`.)
 unfoldable pub allowed_parent : Rules → List (List ℕ) → List ℕ → Option ℕ

@@ -9,9 +9,11 @@ pub data MayStand (rules : Rules) : List ℕ → List (List ℕ) → Type 0 wher
   -- the root has no ancestors
   is_root : {item : List ℕ} → MayStand rules item []
   -- the first check that is about the item there allows it
-  check_allows : {item parent : List ℕ} {above : List (List ℕ)} → child_answer rules.checks (reverse (parent ∷ above)) item ≡ Some true → MayStand rules item (parent ∷ above)
+  check_allows : {item parent : List ℕ} {above : List (List ℕ)} → child_answer rules.checks (reverse (parent ∷ above)) item ≡ Some true
+      → MayStand rules item (parent ∷ above)
   -- no check is about it, it may stand in its parent, and its parent may stand where it stands
-  parent_allows : {item parent : List ℕ} {above : List (List ℕ)} → child_answer rules.checks (reverse (parent ∷ above)) item ≡ None → StandsIn rules.entries item parent
+  parent_allows : {item parent : List ℕ} {above : List (List ℕ)} → child_answer rules.checks (reverse (parent ∷ above)) item ≡ None
+      → StandsIn rules.entries item parent
       → MayStand rules parent above → MayStand rules item (parent ∷ above)
 
 -- An item behind these ancestors, which are given from the root on, may have an attribute.

@@ -1,5 +1,6 @@
 -- The rules that a schema file makes, or why it makes none.
-use Rattle.std.specs.Prelude.{ℕ, ◌+◌, ◌-◌, ◌^◌, min, List, [], ◌∷◌, ◌++◌, Bool, true, false, not, if◌then◌else◌, Option, Some, None, option_map, Result, Ok, Err, codes, position}
+use Rattle.std.specs.Prelude.{ℕ, ◌+◌, ◌-◌, ◌^◌, min, List, [], ◌∷◌, ◌++◌, Bool, true, false, not, if◌then◌else◌, Option, Some, None, option_map, Result, Ok}
+use Rattle.std.specs.Prelude.{Err, codes, position}
 use Rattle.std.specs.Option.{option_or}
 use Rattle.std.specs.List.{find, flat_map}
 use Rattle.schema_definitions.specs.declared.file.Entry.{Entry}
@@ -55,7 +56,12 @@ block_object_entry = record (bare (Item (codes "$blockObject"))) { allow_where =
 
 -- an object that stands where text does, with the text's attributes
 abbrev pub inline_object_entry : Entry
-inline_object_entry = record (bare (Item (codes "$inlineObject"))) { allow_where = codes "$text" ∷ []; allow_attributes_of = codes "$text" ∷ []; is_inline = Some true; is_object = Some true }
+inline_object_entry = record (bare (Item (codes "$inlineObject"))) {
+  allow_where = codes "$text" ∷ [];
+  allow_attributes_of = codes "$text" ∷ [];
+  is_inline = Some true;
+  is_object = Some true;
+}
 
 -- all of these. (After "Generic items" of the schema guide of CKEditor 5's framework documentation.)
 unfoldable pub predefined : List Entry
@@ -77,7 +83,9 @@ extended (Extend name) = name ∷ []
 
 -- the names of an entry and of a check that have to be items, in the order in which they are written: attributes are no items
 abbrev pub needed_by : Entry → List (List ℕ)
-needed_by entry = extended entry.subject ++ (entry.allow_in ++ (entry.allow_children ++ (entry.allow_where ++ (entry.allow_content_of ++ (entry.allow_attributes_of ++ (entry.inherit_types_from ++ entry.inherit_all_from))))))
+needed_by entry = extended entry.subject
+    ++ (entry.allow_in ++ (entry.allow_children
+    ++ (entry.allow_where ++ (entry.allow_content_of ++ (entry.allow_attributes_of ++ (entry.inherit_types_from ++ entry.inherit_all_from))))))
 
 -- and those of a check: its item, and the names that ancestors end with
 abbrev pub needed_by_check : Check → List (List ℕ)

@@ -6,7 +6,8 @@ use Rattle.schema_definitions.specs.declared.file.Entry.{Entry}
 use Rattle.schema_definitions.specs.declared.file.Subject.{Subject}
 use Rattle.schema_definitions.specs.declared.file.Subject.TheVariants.{Item, Extend}
 use Rattle.schema_definitions.specs.declared.file.Property.{Property}
-use Rattle.schema_definitions.specs.declared.file.Property.TheVariants.{AllowIn, AllowChildren, AllowAttributes, AllowWhere, AllowContentOf, AllowAttributesOf, InheritTypesFrom}
+use Rattle.schema_definitions.specs.declared.file.Property.TheVariants.{AllowIn, AllowChildren, AllowAttributes, AllowWhere, AllowContentOf, AllowAttributesOf}
+use Rattle.schema_definitions.specs.declared.file.Property.TheVariants.{InheritTypesFrom}
 use Rattle.schema_definitions.specs.declared.file.Flag.{Flag}
 use Rattle.schema_definitions.specs.declared.file.Flag.TheVariants.{Block, Inline, Limit, Object, Selectable, Content}
 use Rattle.schema_definitions.specs.Names.{has}

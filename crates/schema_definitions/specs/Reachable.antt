@@ -6,7 +6,8 @@ use Rattle.schema_definitions.specs.Names.{has}
 -- the names to which pairs lead from this one and that weren't seen before, each once
 abbrev pub fresh : List (List ℕ × List ℕ) → List ℕ → List (List ℕ) → List (List ℕ)
 fresh [] from seen = []
-fresh (pair ∷ pairs) from seen = if bytes_eq pair.0 from && not (has seen pair.1) then pair.1 ∷ fresh pairs from (seen ++ pair.1 ∷ []) else fresh pairs from seen
+fresh (pair ∷ pairs) from seen = if bytes_eq pair.0 from && not (has seen pair.1) then pair.1 ∷ fresh pairs from (seen ++ pair.1 ∷ [])
+    else fresh pairs from seen
 
 -- the names done and those that can be reached from the waiting ones, in at most so many steps
 abbrev pub followed : List (List ℕ × List ℕ) → ℕ → List (List ℕ) → List (List ℕ) → List (List ℕ)

@@ -1,7 +1,8 @@
 -- The relations that the entries make, each the least one with its rules.
 use Rattle.std.specs.Prelude.{ℕ, List, IsTrue}
 use Rattle.schema_definitions.specs.declared.file.Entry.{Entry}
-use Rattle.schema_definitions.specs.declared.file.Property.TheVariants.{AllowIn, AllowChildren, AllowAttributes, AllowWhere, AllowContentOf, AllowAttributesOf, InheritTypesFrom}
+use Rattle.schema_definitions.specs.declared.file.Property.TheVariants.{AllowIn, AllowChildren, AllowAttributes, AllowWhere, AllowContentOf, AllowAttributesOf}
+use Rattle.schema_definitions.specs.declared.file.Property.TheVariants.{InheritTypesFrom}
 use Rattle.schema_definitions.specs.declared.file.Flag.{Flag}
 use Rattle.schema_definitions.specs.Entries.{lists, sets, leaves_open}
 
@@ -28,4 +29,5 @@ pub data HasFlag (entries : List Entry) (flag : Flag) : List ℕ → Type 0 wher
   -- an entry of the item writes it true
   writes_it : {item : List ℕ} → IsTrue (sets entries flag item) → HasFlag entries flag item
   -- no entry of the item writes it, and it is set for one of the item's `inheritTypesFrom`
-  inherits_it : {item other : List ℕ} → IsTrue (leaves_open entries flag item) → IsTrue (lists entries InheritTypesFrom item other) → HasFlag entries flag other → HasFlag entries flag item
+  inherits_it : {item other : List ℕ} → IsTrue (leaves_open entries flag item) → IsTrue (lists entries InheritTypesFrom item other)
+      → HasFlag entries flag other → HasFlag entries flag item

@@ -2,7 +2,8 @@
 use Rattle.std.specs.Prelude.{ℕ, List, [], ◌∷◌, ◌++◌, Bool, map}
 use Rattle.std.specs.List.{filter}
 use Rattle.schema_definitions.specs.declared.file.Entry.{Entry}
-use Rattle.schema_definitions.specs.declared.file.Property.TheVariants.{AllowIn, AllowChildren, AllowAttributes, AllowWhere, AllowContentOf, AllowAttributesOf, InheritTypesFrom}
+use Rattle.schema_definitions.specs.declared.file.Property.TheVariants.{AllowIn, AllowChildren, AllowAttributes, AllowWhere, AllowContentOf, AllowAttributesOf}
+use Rattle.schema_definitions.specs.declared.file.Property.TheVariants.{InheritTypesFrom}
 use Rattle.schema_definitions.specs.declared.file.Flag.{Flag}
 use Rattle.schema_definitions.specs.Names.{has, turned, targets}
 use Rattle.schema_definitions.specs.Reachable.{reachable}
@@ -14,7 +15,8 @@ placements entries = turned (pairs entries AllowIn) ++ pairs entries AllowChildr
 
 -- the items that may stand in a parent: from the parents whose content it has, their items, and those that may stand where these may
 unfoldable pub children_of : List Entry → List ℕ → List (List ℕ)
-children_of entries parent = reachable (turned (pairs entries AllowWhere)) (targets (placements entries) (reachable (pairs entries AllowContentOf) (parent ∷ [])))
+children_of entries parent = reachable (turned (pairs entries AllowWhere))
+    (targets (placements entries) (reachable (pairs entries AllowContentOf) (parent ∷ [])))
 
 -- whether an item may stand in a parent, by the entries alone
 abbrev pub stands_in : List Entry → List ℕ → List ℕ → Bool

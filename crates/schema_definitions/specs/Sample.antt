@@ -33,7 +33,13 @@ with_more entries checks = record { entries = sample.entries ++ entries; checks 
 -- items that inherit from each other in a circle: what one may do, each may
 abbrev pub circle : Rules
 circle = with_more (
-    record (bare (Item (codes "a"))) { allow_where = codes "b" ∷ []; allow_content_of = codes "b" ∷ []; allow_attributes_of = codes "b" ∷ []; inherit_types_from = codes "b" ∷ []; allow_attributes = codes "x" ∷ [] }
+    record (bare (Item (codes "a"))) {
+      allow_where = codes "b" ∷ [];
+      allow_content_of = codes "b" ∷ [];
+      allow_attributes_of = codes "b" ∷ [];
+      inherit_types_from = codes "b" ∷ [];
+      allow_attributes = codes "x" ∷ [];
+    }
     ∷ record (bare (Item (codes "b"))) { inherit_all_from = codes "c" ∷ []; allow_children = codes "$text" ∷ []; is_block = Some false }
     ∷ record (bare (Item (codes "c"))) { inherit_all_from = codes "a" ∷ []; allow_in = codes "quote" ∷ []; is_block = Some true }
     ∷ []) []

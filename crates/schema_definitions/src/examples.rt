@@ -2,7 +2,8 @@
 #![tactic(auto, unfolding(crate::specs::Allowed::check_child, crate::specs::Allowed::child_answer, crate::specs::Allowed::check_attribute, crate::specs::Allowed::attribute_answer, crate::specs::Allowed::allowed_parent, crate::specs::Allowed::registered, crate::specs::Allowed::inline_objects, crate::specs::Rules::children_of, crate::specs::Rules::keys_of, crate::specs::Rules::items_with, crate::specs::Reachable::reachable, crate::specs::Compiled::predefined, crate::specs::Compiled::refusal, crate::specs::Compiled::first_unknown, crate::specs::Compiled::first_bad_check))]
 
 ghost use Rattle.std.specs.Prelude.{◌≡◌, true, false, [], ◌∷◌, Some, None, codes};
-ghost use Rattle.schema_definitions.specs.Allowed.{check_child, check_attribute, allowed_parent, registered, inline_objects, is_block, is_inline, is_limit, is_object, is_selectable, is_content};
+ghost use Rattle.schema_definitions.specs.Allowed.{check_child, check_attribute, allowed_parent, registered, inline_objects, is_block, is_inline, is_limit};
+ghost use Rattle.schema_definitions.specs.Allowed.{is_object, is_selectable, is_content};
 ghost use Rattle.schema_definitions.specs.Compiled.{bare, refusal};
 ghost use Rattle.schema_definitions.specs.Sample.{sample, with_more, circle, flags};
 ghost use Rattle.schema_definitions.specs.declared.file.Subject.TheVariants.{Item, Extend};

@@ -23,13 +23,17 @@ module _ {A : Type 0} (p : A → Bool) where
   find_both found xs ys = or_assoc found (find p xs) (find p ys) ∙ ap (option_or found) (sym (find-append p xs ys))
 
   -- eight lists, one after the other
-  pub find_eight : (a b c d e f g h : List A) → option_or (option_or (option_or (option_or (option_or (option_or (option_or (find p a) (find p b)) (find p c)) (find p d)) (find p e)) (find p f)) (find p g)) (find p h) ≡ find p (a ++ (b ++ (c ++ (d ++ (e ++ (f ++ (g ++ h)))))))
+  pub find_eight : (a b c d e f g h : List A)
+      → option_or (option_or (option_or (option_or (option_or (option_or (option_or (find p a) (find p b)) (find p c)) (find p d)) (find p e)) (find p f))
+      (find p g)) (find p h) ≡ find p (a ++ (b ++ (c ++ (d ++ (e ++ (f ++ (g ++ h)))))))
   find_eight a b c d e f g h =
       let ab : Option A = option_or (find p a) (find p b) in
       let abc : Option A = option_or ab (find p c) in
       let abcd : Option A = option_or abc (find p d) in
       let abcde : Option A = option_or abcd (find p e) in
-      find_both (option_or abcde (find p f)) g h ∙ find_both abcde f (g ++ h) ∙ find_both abcd e (f ++ (g ++ h)) ∙ find_both abc d (e ++ (f ++ (g ++ h))) ∙ find_both ab c (d ++ (e ++ (f ++ (g ++ h)))) ∙ find_both (find p a) b (c ++ (d ++ (e ++ (f ++ (g ++ h))))) ∙ sym (find-append p a (b ++ (c ++ (d ++ (e ++ (f ++ (g ++ h)))))))
+      find_both (option_or abcde (find p f)) g h ∙ find_both abcde f (g ++ h) ∙ find_both abcd e (f ++ (g ++ h))
+      ∙ find_both abc d (e ++ (f ++ (g ++ h))) ∙ find_both ab c (d ++ (e ++ (f ++ (g ++ h))))
+      ∙ find_both (find p a) b (c ++ (d ++ (e ++ (f ++ (g ++ h))))) ∙ sym (find-append p a (b ++ (c ++ (d ++ (e ++ (f ++ (g ++ h)))))))
 
   module _ {E : Type 0} (f : E → List A) (es : List E) (k : ℕ) (e : E) (inside : k < length es) (is : e ≡ slice_index_or es k e) where
     at_hand : flat_map f (drop k es) ≡ f e ++ flat_map f (drop (k + 1) es)
@@ -40,5 +44,6 @@ module _ {A : Type 0} (p : A → Bool) where
     found_now x here all = sym (find_front (f e) (flat_map f (drop (k + 1) es)) x (sym here)) ∙ ap (find p) (sym at_hand) ∙ all
 
     -- what isn't found now comes later
-    pub found_later : None ≡ find p (f e) → find p (flat_map f (drop k es)) ≡ find p (flat_map f es) → find p (flat_map f (drop (k + 1) es)) ≡ find p (flat_map f es)
+    pub found_later : None ≡ find p (f e) → find p (flat_map f (drop k es)) ≡ find p (flat_map f es) → find p (flat_map f (drop (k + 1) es))
+        ≡ find p (flat_map f es)
     found_later here all = sym (find_behind (f e) (flat_map f (drop (k + 1) es)) (sym here)) ∙ ap (find p) (sym at_hand) ∙ all

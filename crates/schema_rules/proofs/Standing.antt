@@ -16,7 +16,8 @@ unfolding check_child
 checked rules [] item some = absurd (omega arith)
 checked rules (root ∷ names) item some = refl
 
-checked_last : (rules : Rules) (names : List (List ℕ)) (item : List ℕ) (above : List (List ℕ)) (parent : List ℕ) → names ≡ above ++ parent ∷ [] → check_child rules names item ≡ passes rules item (reverse names)
+checked_last : (rules : Rules) (names : List (List ℕ)) (item : List ℕ) (above : List (List ℕ)) (parent : List ℕ) → names ≡ above ++ parent ∷ []
+    → check_child rules names item ≡ passes rules item (reverse names)
 unfolding check_child
 checked_last rules [] item [] parent e = absurd cc
 checked_last rules [] item (first ∷ above) parent e = absurd cc
@@ -34,5 +35,6 @@ stands rules names above parent item e =
     ∙ ap (unwrap_or (child_answer rules.checks names item)) (and-swapped (stands_in rules.entries item parent) (last_passes rules names))
 
 -- an item passes where it may stand
-pub passes_inside : (rules : Rules) (names : List (List ℕ)) (item : List ℕ) → 0 < length names → check_child rules names item ≡ last_passes rules (names ++ item ∷ [])
+pub passes_inside : (rules : Rules) (names : List (List ℕ)) (item : List ℕ) → 0 < length names → check_child rules names item
+    ≡ last_passes rules (names ++ item ∷ [])
 passes_inside rules names item some = checked rules names item some ∙ ap (first_passes rules) (sym (reverse_last names item))

@@ -4,10 +4,12 @@ use Rattle.std.specs.Str.{bytes_eq}
 use Rattle.std.proofs.lemmas.Bool.{and_from, false_from_ne_true, true≢false, ltb-true, lt-ltb, eqb-true}
 use Rattle.std.proofs.lemmas.List.{take-append-drop, get_or-take, length-take}
 use Rattle.schema_definitions.specs.declared.file.Entry.{Entry}
-use Rattle.schema_definitions.specs.declared.file.Property.TheVariants.{AllowIn, AllowChildren, AllowAttributes, AllowWhere, AllowContentOf, AllowAttributesOf, InheritTypesFrom}
+use Rattle.schema_definitions.specs.declared.file.Property.TheVariants.{AllowIn, AllowChildren, AllowAttributes, AllowWhere, AllowContentOf, AllowAttributesOf}
+use Rattle.schema_definitions.specs.declared.file.Property.TheVariants.{InheritTypesFrom}
 use Rattle.schema_definitions.specs.declared.file.Flag.{Flag}
 use Rattle.schema_definitions.specs.Names.{has}
-use Rattle.schema_definitions.specs.Relations.{StandsIn, allowed_in, allowed_child, like_another, content_of, MayHave, allowed, attributes_of, HasFlag, writes_it, inherits_it}
+use Rattle.schema_definitions.specs.Relations.{StandsIn, allowed_in, allowed_child, like_another, content_of, MayHave, allowed, attributes_of, HasFlag}
+use Rattle.schema_definitions.specs.Relations.{writes_it, inherits_it}
 use Rattle.schema_definitions.specs.Rules.{stands_in, may_have, has_flag}
 use Rattle.schema_definitions.proofs.Least.{stands_in_is, may_have_is, has_flag_is}
 use Rattle.schema_definitions.proofs.Members.{itself, has_left}
@@ -52,11 +54,14 @@ module _ (names : List (List ℕ)) (entries : List Entry) (known : AreKnown name
   flags_known flag item h = flagged_known flag ((has_flag_is entries flag item).0 h)
 
 -- a number is one of the first where its name is among the first names
-pub number_front : (names first : List (List ℕ)) (count node : ℕ) (name : List ℕ) → take count names ≡ first → node < length names → named names node ≡ name → ((other : ℕ) → other < length names → is_at (Some node) other ≡ bytes_eq name (named names other)) → nat_lt node count ≡ has first name
+pub number_front : (names first : List (List ℕ)) (count node : ℕ) (name : List ℕ) → take count names ≡ first → node < length names
+    → named names node ≡ name → ((other : ℕ) → other < length names → is_at (Some node) other ≡ bytes_eq name (named names other))
+    → nat_lt node count ≡ has first name
 number_front names first count node name front inside meant exact = both_ways (nat_lt node count) (has first name)
     (λ below. let b = ltb-true node count below in
     let same : named (take count names) node ≡ name = get_or-take count names node [] b ∙ meant in
-    subst (λ ns. has ns name ≡ true) front (subst (λ n. has (take count names) n ≡ true) same (has_named (take count names) node (omega (arith, b, inside, length-take count names)))))
+    subst (λ ns. has ns name ≡ true) front
+    (subst (λ n. has (take count names) n ≡ true) same (has_named (take count names) node (omega (arith, b, inside, length-take count names)))))
     (λ h. let found = number_of (take count names) name (subst (λ ns. has ns name ≡ true) (sym front) h) in
     let below : found.0 < count = omega (arith, found.1, length-take count names) in
     let within : found.0 < length names = omega (arith, found.1, length-take count names) in
@@ -66,4 +71,7 @@ number_front names first count node name front inside meant exact = both_ways (n
 
 -- a name that isn't there isn't among the first
 pub none_front : (names first : List (List ℕ)) (count : ℕ) (name : List ℕ) → take count names ≡ first → false ≡ has names name → false ≡ has first name
-none_front names first count name front absent = sym (false_from_ne_true (has first name) (λ h. true≢false (sym (subst (λ ns. has ns name ≡ true) (take-append-drop count names) (has_left (take count names) (drop count names) name (subst (λ ns. has ns name ≡ true) (sym front) h))) ∙ sym absent)))
+none_front names first count name front absent =
+    sym (false_from_ne_true (has first name)
+    (λ h. true≢false (sym (subst (λ ns. has ns name ≡ true) (take-append-drop count names)
+    (has_left (take count names) (drop count names) name (subst (λ ns. has ns name ≡ true) (sym front) h))) ∙ sym absent)))

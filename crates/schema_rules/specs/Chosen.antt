@@ -1,5 +1,6 @@
 -- The items of a document that are tested, and the first breach among them.
-use Rattle.std.specs.Prelude.{◌≡◌, ℕ, ◌<◌, ◌≤◌, ◌+◌, ◌^◌, length, List, [], ◌∷◌, ◌++◌, Bool, true, false, drop, if◌then◌else◌, Option, Some, None, reverse, codes}
+use Rattle.std.specs.Prelude.{◌≡◌, ℕ, ◌<◌, ◌≤◌, ◌+◌, ◌^◌, length, List, [], ◌∷◌, ◌++◌, Bool, true, false, drop, if◌then◌else◌, Option, Some, None, reverse}
+use Rattle.std.specs.Prelude.{codes}
 use Rattle.std.specs.List.{list_any}
 use Rattle.ck_base.specs.declared.faults.Rule.{Rule}
 use Rattle.item_definitions.specs.Item.{Attributes, Item, element, none, items_of, count_of, depth_of}

@@ -21,14 +21,16 @@ is_marked marks node = slice_index_or marks node false
 -- the marks, and the nodes that wait, once these nodes are visited: each that isn't marked is marked, and waits
 abbrev pub visited : List ℕ → List Bool → List ℕ → List Bool × List ℕ
 visited [] marks waiting = (marks, waiting)
-visited (node ∷ nodes) marks waiting = if is_marked marks node then visited nodes marks waiting else visited nodes (slice_set marks node true) (waiting ++ node ∷ [])
+visited (node ∷ nodes) marks waiting = if is_marked marks node then visited nodes marks waiting
+    else visited nodes (slice_set marks node true) (waiting ++ node ∷ [])
 
 -- the marked nodes are the least set that has the start and that no step leads out of
 pub record AreReached (graph : List (List ℕ)) (start : List ℕ) (marks : List Bool) : Type 0 where
   pub size : length marks ≡ length graph
   pub started : (node : ℕ) → among start node ≡ true → is_marked marks node ≡ true
   pub closed : (from to : ℕ) → goes graph from to ≡ true → is_marked marks from ≡ true → is_marked marks to ≡ true
-  pub least : (test : ℕ → Bool) → ((node : ℕ) → among start node ≡ true → test node ≡ true) → ((from to : ℕ) → goes graph from to ≡ true → test from ≡ true → test to ≡ true) → (node : ℕ) → is_marked marks node ≡ true → test node ≡ true
+  pub least : (test : ℕ → Bool) → ((node : ℕ) → among start node ≡ true → test node ≡ true)
+      → ((from to : ℕ) → goes graph from to ≡ true → test from ≡ true → test to ≡ true) → (node : ℕ) → is_marked marks node ≡ true → test node ≡ true
 
 -- how many nodes aren't marked
 abbrev pub unmarked : List Bool → ℕ

@@ -13,4 +13,5 @@ joins ToItem graph item other = goes graph other item
 pub record IsGrown (names : List (List ℕ)) (direction : Direction) (old new : List (List ℕ)) (test : ℕ → ℕ → Bool) : Type 0 where
   pub size : length new ≡ length old
   pub kept : IsGraph old → IsGraph new
-  pub steps : (item other : ℕ) → item < length names → other < length names → joins direction new item other ≡ (joins direction old item other || test item other)
+  pub steps : (item other : ℕ) → item < length names → other < length names → joins direction new item other
+      ≡ (joins direction old item other || test item other)

@@ -126,7 +126,8 @@ fn first_listed(nears: &Vec<Near<'_>>, from: u32, to: u32) -> u32
 
 /// What the spots list inside the item at an index.
 fn inside<'a>(nears: &Vec<Near<'a>>, index: u32) -> Result<Chosen<'a>, NoMemory>
-    ensures { IfOk result (λ below. (next : ℕ) (rest : List ℕ) → is_chosen below (next ∷ rest) ≡ list_any (λ near. lists_near near (index ∷ next ∷ rest)) nears.now.items) }
+    ensures { IfOk result (λ below. (next : ℕ) (rest : List ℕ) → is_chosen below (next ∷ rest)
+        ≡ list_any (λ near. lists_near near (index ∷ next ∷ rest)) nears.now.items) }
 {
     let mut inner = Vec::new(*nears.allocator());
     for near in nears {

@@ -4,7 +4,8 @@ ghost use Rattle.schema_definitions.specs.Names.{has, in_order};
 ghost use Rattle.schema_definitions.specs.Allowed.{registrations};
 ghost use Rattle.schema_definitions.specs.Compiled.{needed_by};
 ghost use Rattle.schema_definitions.specs.Rules.{stands_in, may_have, has_flag};
-ghost use Rattle.schema_definitions.specs.Allowed.{is_block, is_inline, is_object, is_limit, is_selectable, is_content, is_registered, passes, check_child, check_attribute, allowed_above, allowed_parent, registered, inline_objects};
+ghost use Rattle.schema_definitions.specs.Allowed.{is_block, is_inline, is_object, is_limit, is_selectable, is_content, is_registered, passes, check_child};
+ghost use Rattle.schema_definitions.specs.Allowed.{check_attribute, allowed_above, allowed_parent, registered, inline_objects};
 ghost use Rattle.schema_rules.specs.Refused.{is_unknown};
 ghost use Rattle.schema_rules.specs.Chosen.{last_passes};
 

@@ -1,6 +1,7 @@
 //! The first breach among the items of a document that are tested. Each node is looked at once, and a text is tested once for all its
 //! characters.
-ghost use Rattle.std.specs.Prelude.{◌≡◌, ◌<◌, ◌≤◌, ◌+◌, ◌^◌, [], ◌∷◌, ◌++◌, Some, None, if◌then◌else◌, option_map, option_copied, length, codes, not, map, IfOk, OnOk};
+ghost use Rattle.std.specs.Prelude.{◌≡◌, ◌<◌, ◌≤◌, ◌+◌, ◌^◌, [], ◌∷◌, ◌++◌, Some, None, if◌then◌else◌, option_map, option_copied, length, codes, not, map};
+ghost use Rattle.std.specs.Prelude.{IfOk, OnOk};
 ghost use Rattle.std.specs.List.{find};
 ghost use Rattle.item_definitions.specs.Item.{count_of, depth_of, element, items_of};
 ghost use Rattle.model_tree.specs.Nodes.{items_at, items_in, characters};
@@ -136,7 +137,8 @@ impl<'a> Walk<'a> {
         requires named { 0 < length above.now.names }
         requires short { length above.now.path < 65 }
         requires allowed { allowed ≡ check_child self.now.schema.now above.now.names name.now }
-        ensures { IfOk result (λ found. found ≡ option_map (λ rule. (rule, above.now.path ++ index ∷ [])) (broken self.now.schema.now above.now.names name.now attrs.now)) }
+        ensures { IfOk result (λ found. found
+            ≡ option_map (λ rule. (rule, above.now.path ++ index ∷ [])) (broken self.now.schema.now above.now.names name.now attrs.now)) }
     {
         match broken_rule(self.schema, above.names(), allowed, name, attrs)? {
             Some(rule) => Ok(Some((rule, above.path_to(index)))),
@@ -178,7 +180,9 @@ impl<'a> Walk<'a> {
         requires named { 0 < length above.now.names }
         requires short { length above.now.path < 65 }
         requires allowed { allowed ≡ check_child self.now.schema.now above.now.names head.now.name }
-        ensures { IfOk result (λ found. found ≡ (if tested then option_map (λ rule. (rule, above.now.path ++ index ∷ [])) (broken self.now.schema.now above.now.names head.now.name head.now.attributes) else None)) }
+        ensures { IfOk result (λ found. found
+            ≡ (if tested then option_map (λ rule. (rule, above.now.path ++ index ∷ []))
+            (broken self.now.schema.now above.now.names head.now.name head.now.attributes) else None)) }
     {
         if tested {
             self.breach_here(above, index, allowed, head.name(), head.attrs())
@@ -199,7 +203,9 @@ impl<'a> Walk<'a> {
     ) -> Result<Option<(Rule, Path)>, NoMemory>
         requires passing { passing ≡ last_passes self.now.schema.now above.old.names }
         requires there { AreThere above.old index (element parts.head.now.id parts.head.now.name parts.head.now.attributes (items_of parts.children.now) ∷ []) }
-        ensures found { IfOk result (λ found. found ≡ breach_from self.now.schema.now chosen.now above.old index (element parts.entry.head.now.id parts.entry.head.now.name parts.entry.head.now.attributes (items_of parts.entry.children.now) ∷ [])) }
+        ensures found { IfOk result (λ found. found
+            ≡ breach_from self.now.schema.now chosen.now above.old index
+            (element parts.entry.head.now.id parts.entry.head.now.name parts.entry.head.now.attributes (items_of parts.entry.children.now) ∷ [])) }
         ensures back { OnOk result (above.new ≡ above.old) }
     {
         let tested = chosen.has(index);
@@ -227,7 +233,8 @@ impl<'a> Walk<'a> {
     ) -> Result<Option<(Rule, Path)>, NoMemory>
         requires passing { passing ≡ last_passes self.now.schema.now (inside above.old parts.head.now.name index).names }
         requires there { AreThere (inside above.old parts.head.now.name index) 0 parts.children.now }
-        ensures found { IfOk result (λ found. found ≡ breach_from self.now.schema.now chosen.entry (inside above.old parts.entry.head.now.name index) 0 parts.entry.children.now) }
+        ensures found { IfOk result (λ found. found ≡ breach_from self.now.schema.now chosen.entry (inside above.old parts.entry.head.now.name index) 0
+            parts.entry.children.now) }
         ensures back { OnOk result (above.new ≡ above.old) }
     {
         if chosen.is_none() {

@@ -3,9 +3,11 @@ use Rattle.std.specs.Prelude.{ℕ, List, [], ◌∷◌, ◌++◌, Bool, false, �
 use Rattle.std.specs.Str.{all_scalars}
 use Rattle.serde_json.specs.Data.{Data, null, boolean, string, object, Items, no_items, item, Members, no_members, put}
 use Rattle.ck_base.specs.Name.{is_name}
-use Rattle.json_values.specs.Written.{numbers_form, text_form, value_form, nullable_form, attributes_form, is_position, is_path, is_value, is_nullable, are_attributes}
+use Rattle.json_values.specs.Written.{numbers_form, text_form, value_form, nullable_form, attributes_form, is_position, is_path, is_value, is_nullable}
+use Rattle.json_values.specs.Written.{are_attributes}
 use Rattle.edit_definitions.specs.declared.edit.Edit.{Edit}
-use Rattle.edit_definitions.specs.declared.edit.Edit.TheVariants.{InsertText, InsertElement, Remove, Move, SetAttribute, RemoveAttribute, Rename, Split, Merge, Wrap, Unwrap, AddMarker, UpdateMarker, RemoveMarker, Select, SelectionAttribute, InsertItems}
+use Rattle.edit_definitions.specs.declared.edit.Edit.TheVariants.{InsertText, InsertElement, Remove, Move, SetAttribute, RemoveAttribute, Rename, Split, Merge}
+use Rattle.edit_definitions.specs.declared.edit.Edit.TheVariants.{Wrap, Unwrap, AddMarker, UpdateMarker, RemoveMarker, Select, SelectionAttribute, InsertItems}
 use Rattle.edit_definitions.specs.declared.edit.Target.{Target}
 use Rattle.edit_definitions.specs.declared.edit.Target.TheVariants.{Range as InRange, Element as OfElement}
 

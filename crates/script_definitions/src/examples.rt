@@ -31,7 +31,8 @@ pub fn optional_fields()
 pub fn targets()
     ensures root { request_of (codes "{\"do\":\"change\",\"edits\":[{\"edit\":\"setAttribute\",\"path\":[],\"key\":\"a\",\"value\":1}]}")
         ≡ Ok (Change (SetAttribute (OfElement []) (codes "a") (Whole (pos 1)) ∷ [])) }
-    ensures path_beside_start { request_of (codes "{\"do\":\"change\",\"edits\":[{\"edit\":\"setAttribute\",\"path\":[0],\"start\":[0],\"key\":\"a\",\"value\":1}]}")
+    ensures path_beside_start { request_of
+        (codes "{\"do\":\"change\",\"edits\":[{\"edit\":\"setAttribute\",\"path\":[0],\"start\":[0],\"key\":\"a\",\"value\":1}]}")
         ≡ Err (BadField (codes "/edits/0/path")) }
     ensures path_beside_end { request_of (codes "{\"do\":\"change\",\"edits\":[{\"edit\":\"removeAttribute\",\"path\":[0],\"end\":null,\"key\":\"a\"}]}")
         ≡ Err (BadField (codes "/edits/0/path")) }

@@ -3,7 +3,10 @@
 ghost use Rattle.std.specs.Prelude.{◌≡◌, false, unwrap_or};
 ghost use Rattle.serde_json.specs.View.{view};
 ghost use Rattle.json_forms.specs.Form.{Reads};
-ghost use Rattle.script_definitions.specs.Edits.{insert_text_at, insert_element_at, remove_at, move_at, range_target_at, element_target_at, target_at, set_attribute_at, remove_attribute_at, rename_at, split_at, merge_at, wrap_at, unwrap_at, add_marker_at, update_marker_at, remove_marker_at, end_or, select_at, selection_attribute_at, beside_edit_of, element_edit_of, edit_of, edit_at};
+ghost use Rattle.script_definitions.specs.Edits.{insert_text_at, insert_element_at, remove_at, move_at, range_target_at, element_target_at, target_at};
+ghost use Rattle.script_definitions.specs.Edits.{set_attribute_at, remove_attribute_at, rename_at, split_at, merge_at, wrap_at, unwrap_at, add_marker_at};
+ghost use Rattle.script_definitions.specs.Edits.{update_marker_at, remove_marker_at, end_or, select_at, selection_attribute_at, beside_edit_of};
+ghost use Rattle.script_definitions.specs.Edits.{element_edit_of, edit_of, edit_at};
 
 use ck_base::faults::FieldPath;
 use ck_base::text::ViewText;

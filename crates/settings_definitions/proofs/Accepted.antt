@@ -1,5 +1,6 @@
 -- Settings that are accepted have a converter without conditions for each registered item, and only registered items stand in documents that obey.
-use Rattle.std.proofs.Common.{◌≡◌, ℕ, List, [], ◌∷◌, ◌++◌, Bool, true, false, cond, not, ◌&&◌, ◌||◌, IsTrue, Contains, Option, Some, None, Result, Ok, Err, IsSome, is_none, option_map, find, refl, sym, ap, ◌∙◌, subst, inl, inr, ◌⊎◌, arith}
+use Rattle.std.proofs.Common.{◌≡◌, ℕ, List, [], ◌∷◌, ◌++◌, Bool, true, false, cond, not, ◌&&◌, ◌||◌, IsTrue, Contains, Option, Some, None, Result, Ok, Err}
+use Rattle.std.proofs.Common.{IsSome, is_none, option_map, find, refl, sym, ap, ◌∙◌, subst, inl, inr, ◌⊎◌, arith}
 use Rattle.std.specs.Option.{option_or}
 use Rattle.std.specs.Ordering.{match_ordering}
 use Rattle.std.specs.List.{list_any}
@@ -28,7 +29,8 @@ use Rattle.converter_definitions.specs.declared.facts.Facts.{Facts}
 use Rattle.converter_definitions.specs.declared.facts.Key.TheVariants.{Insert}
 use Rattle.converter_definitions.specs.declared.part.Part.TheVariants.{Shape}
 use Rattle.converter_definitions.specs.declared.stock.StockConverter.{StockConverter}
-use Rattle.converter_definitions.specs.declared.stock.StockConverter.TheVariants.{ElementToElement, ElementToStructure, AttributeToElement, AttributeToAttribute, MarkerToHighlight, MarkerToElement}
+use Rattle.converter_definitions.specs.declared.stock.StockConverter.TheVariants.{ElementToElement, ElementToStructure, AttributeToElement}
+use Rattle.converter_definitions.specs.declared.stock.StockConverter.TheVariants.{AttributeToAttribute, MarkerToHighlight, MarkerToElement}
 use Rattle.converter_definitions.specs.Form.{Form}
 use Rattle.converter_definitions.specs.Shape.{form_with}
 use Rattle.converter_definitions.specs.Gives.{part, stock, Conversion, gift_if, filled_in, element_form, shape_gift, stock_gift, gift, converted, is_named}
@@ -40,7 +42,8 @@ use Rattle.ck_base.specs.Name.{is_generic}
 use Rattle.json_forms.specs.declared.fault.FormFault.{FormFault}
 use Rattle.settings_definitions.specs.declared.fault.SettingsFault.{SettingsFault}
 use Rattle.settings_definitions.specs.declared.fault.SettingsFault.TheVariants.{TwiceRegistered, UnknownItem, BadCheck, UnknownCustom, NoConverter}
-use Rattle.settings_definitions.specs.Settings.{Form as FileForm, rules_of, items_of, unknown_start, converters_refusal, refusal_of, Settings, settings_in, unless_refused, settings_from, form_of, settings_of}
+use Rattle.settings_definitions.specs.Settings.{Form as FileForm, rules_of, items_of, unknown_start, converters_refusal, refusal_of, Settings, settings_in}
+use Rattle.settings_definitions.specs.Settings.{unless_refused, settings_from, form_of, settings_of}
 use Rattle.settings_definitions.specs.Converting.{Serves, AllConverted}
 use Rattle.settings_definitions.proofs.Shaped.{shaped}
 
@@ -62,13 +65,15 @@ has-insert (x ∷ names) new name = go (has-insert names new name) (name_cmp new
     go : has (insert_key name_cmp names new) name ≡ (bytes_eq new name || has names name) → (o : Ordering) → name_cmp new x ≡ o
         → has (match_ordering o (new ∷ x ∷ names) (x ∷ names) (x ∷ insert_key name_cmp names new)) name ≡ (bytes_eq new name || has (x ∷ names) name)
     go rest Less e = refl
-    go rest Equal e = subst (λ y. (bytes_eq y name || has names name) ≡ (bytes_eq new name || (bytes_eq y name || has names name))) (same_by_order new x e) (or_twice (bytes_eq new name) (has names name))
+    go rest Equal e = subst (λ y. (bytes_eq y name || has names name) ≡ (bytes_eq new name || (bytes_eq y name || has names name)))
+        (same_by_order new x e) (or_twice (bytes_eq new name) (has names name))
     go rest Greater e = ap (λ b. bytes_eq x name || b) rest ∙ or_swap (bytes_eq x name) (bytes_eq new name) (has names name)
 
 has-among : (others names : List (List ℕ)) (name : List ℕ) → has (in_order_among others names) name ≡ (has names name || has others name)
 has-among others [] name = refl
 has-among others (x ∷ names) name =
-    has-among (insert_key name_cmp others x) names name ∙ ap (λ b. has names name || b) (has-insert others x name) ∙ or_swap (has names name) (bytes_eq x name) (has others name) ∙ assoc (bytes_eq x name) (has names name) (has others name)
+    has-among (insert_key name_cmp others x) names name ∙ ap (λ b. has names name || b) (has-insert others x name)
+    ∙ or_swap (has names name) (bytes_eq x name) (has others name) ∙ assoc (bytes_eq x name) (has names name) (has others name)
   where
     assoc : (a b c : Bool) → (a || (b || c)) ≡ ((a || b) || c)
     assoc true b c = refl
@@ -86,13 +91,17 @@ record Accepted (handed_in : List (List ℕ)) (form : FileForm) : Type 0 where
 accepted : (handed_in : List (List ℕ)) (form : FileForm) → refusal_of handed_in form ≡ None → Accepted handed_in form
 unfolding refusal_of
 accepted handed_in form e =
-    go (option_map TwiceRegistered (first_repeated [] (items_of form))) (option_map UnknownItem (unknown_start (items_of form) form.start)) (first_unknown (rules_of form))
+    go (option_map TwiceRegistered (first_repeated [] (items_of form))) (option_map UnknownItem (unknown_start (items_of form) form.start))
+    (first_unknown (rules_of form))
     (option_map UnknownItem (first_unknown_item (items_of form) form.converters)) (option_map BadCheck (first_bad_check form.checks))
-    (option_map UnknownCustom (first_unknown_custom handed_in form.converters)) (first_without_converter form.converters (registered (rules_of form))) refl refl e
+    (option_map UnknownCustom (first_unknown_custom handed_in form.converters)) (first_without_converter form.converters (registered (rules_of form)))
+    refl refl e
   where
     go : (twice start : Option SettingsFault) (unknown : Option (List ℕ)) (item check custom : Option SettingsFault) (missing : Option (List ℕ))
         → first_unknown (rules_of form) ≡ unknown → first_without_converter form.converters (registered (rules_of form)) ≡ missing
-        → option_or twice (option_or start (option_or (option_map UnknownItem unknown) (option_or item (option_or check (option_or custom (option_map NoConverter missing)))))) ≡ None → Accepted handed_in form
+        → option_or twice (option_or start
+        (option_or (option_map UnknownItem unknown) (option_or item (option_or check (option_or custom (option_map NoConverter missing)))))) ≡ None
+        → Accepted handed_in form
     go None None None None None None None u m f = record { known = u; converted = m }
     go None None None None None None (Some name) u m f = cc
     go None None None None None (Some fault) missing u m f = cc
@@ -113,7 +122,8 @@ found [] name h = cc
 found (plan ∷ plans) name h =
     elim (or_cases (is_unconditional plan.entry name) (converts plans name) h) [
       | inl here ↦ record { plan = plan; there = first plan plans; fits = here }
-      | inr later ↦ (let rest = found plans name later in record { plan = rest.plan; there = Contains-append_right (plan ∷ []) plans rest.plan rest.there; fits = rest.fits })
+      | inr later ↦ (let rest = found plans name later
+          in record { plan = rest.plan; there = Contains-append_right (plan ∷ []) plans rest.plan rest.there; fits = rest.fits })
     ]
 
 -- what it gives an element of this name
@@ -131,10 +141,24 @@ module _ (objects : List (List ℕ)) (name : List ℕ) (attributes : Attributes)
   same_names model e = subst (λ n. bytes_eq name n ≡ true) (sym (same_name model name e)) (itself name)
 
   gives_shape : (entry : PlanEntry) → is_unconditional entry name ≡ true → GivesShape entry
-  gives_shape (Stock (ElementToElement model [] None view)) h = record { converter = ElementToElement model [] None view; is = refl; form = form_with (filled_in facts) (element_form view); gives = ap (λ b. gift_if (b && true && true) (shape_gift facts [] (element_form view))) (same_names model h) }
+  gives_shape (Stock (ElementToElement model [] None view)) h =
+      record {
+        converter = ElementToElement model [] None view;
+        is = refl;
+        form = form_with (filled_in facts) (element_form view);
+        gives =
+            ap (λ b. gift_if (b && true && true) (shape_gift facts [] (element_form view))) (same_names model h);
+      }
   gives_shape (Stock (ElementToElement model [] (Some other) view)) h = cc
   gives_shape (Stock (ElementToElement model (entry ∷ asked) other view)) h = cc
-  gives_shape (Stock (ElementToStructure model [] None view)) h = record { converter = ElementToStructure model [] None view; is = refl; form = form_with (filled_in facts) view; gives = ap (λ b. gift_if (b && true && true) (shape_gift facts [] view)) (same_names model h) }
+  gives_shape (Stock (ElementToStructure model [] None view)) h =
+      record {
+        converter = ElementToStructure model [] None view;
+        is = refl;
+        form = form_with (filled_in facts) view;
+        gives =
+            ap (λ b. gift_if (b && true && true) (shape_gift facts [] view)) (same_names model h);
+      }
   gives_shape (Stock (ElementToStructure model [] (Some other) view)) h = cc
   gives_shape (Stock (ElementToStructure model (entry ∷ asked) other view)) h = cc
   gives_shape (Stock (AttributeToElement model value view)) h = cc
@@ -148,25 +172,30 @@ converts_each : (handed_in : List (List ℕ)) (form : FileForm) → Accepted han
 converts_each handed_in form fine conversion serves items obeys path id name attributes children there free parent index =
     let allowed = (obeys_iff (rules_of form) items).0 obeys path (element id name attributes children) there in
     let known = standing_is_known (rules_of form) fine.known (ancestors_at path items) name allowed.stands in
-    let passes = all_pass (λ n. is_generic n || converts form.converters n) (registered (rules_of form)) name fine.converted (registered_in_order (rules_of form) name known) in
+    let passes = all_pass (λ n. is_generic n || converts form.converters n) (registered (rules_of form)) name fine.converted
+    (registered_in_order (rules_of form) name known) in
     let unconditional = found form.converters name (sym (ap (λ b. b || converts form.converters name) free) ∙ passes) in
     let shape = gives_shape conversion.objects name attributes parent index unconditional.plan.entry unconditional.fits in
     shaped conversion (record { name = name; attributes = attributes; parent = parent; index = index }) (stock shape.converter) shape.form serves.lawful
     (serves.listed unconditional.plan shape.converter unconditional.there shape.is) shape.gives
 
 pub accepted_convert : (handed_in : List (List ℕ)) (bytes : List ℕ) (settings : Settings) → settings_of handed_in bytes ≡ Ok settings
-    → (conversion : Conversion) → Serves settings.converters conversion → (items : List Item) → breach settings.rules items ≡ None → AllConverted conversion items
+    → (conversion : Conversion) → Serves settings.converters conversion → (items : List Item) → breach settings.rules items ≡ None
+    → AllConverted conversion items
 unfolding settings_of
 accepted_convert handed_in bytes settings e = go (form_of bytes) e
   where
     by : (form : FileForm) (reason : Option SettingsFault) → refusal_of handed_in form ≡ reason → unless_refused form reason ≡ Ok settings
-        → (conversion : Conversion) → Serves settings.converters conversion → (items : List Item) → breach settings.rules items ≡ None → AllConverted conversion items
+        → (conversion : Conversion) → Serves settings.converters conversion → (items : List Item) → breach settings.rules items ≡ None
+        → AllConverted conversion items
     by form None r f =
         let same : settings_in form ≡ settings = cc in
-        subst (λ s. (conversion : Conversion) → Serves s.converters conversion → (items : List Item) → breach s.rules items ≡ None → AllConverted conversion items) same (converts_each handed_in form (accepted handed_in form r))
+        subst (λ s. (conversion : Conversion) → Serves s.converters conversion → (items : List Item) → breach s.rules items ≡ None
+        → AllConverted conversion items) same (converts_each handed_in form (accepted handed_in form r))
     by form (Some fault) r f = cc
 
     go : (form : Result FileForm FormFault) → settings_from handed_in form ≡ Ok settings
-        → (conversion : Conversion) → Serves settings.converters conversion → (items : List Item) → breach settings.rules items ≡ None → AllConverted conversion items
+        → (conversion : Conversion) → Serves settings.converters conversion → (items : List Item) → breach settings.rules items ≡ None
+        → AllConverted conversion items
     go (Err fault) f = cc
     go (Ok form) f = by form (refusal_of handed_in form) refl f

@@ -22,12 +22,14 @@ use Rattle.json_names.specs.Names.{name_field, optional_name}
 use Rattle.json_values.specs.Values.{value_at, attributes_field}
 use Rattle.converter_definitions.specs.declared.pattern.Pattern.{Pattern}
 use Rattle.converter_definitions.specs.declared.stock.StockConverter.{StockConverter}
-use Rattle.converter_definitions.specs.declared.stock.StockConverter.TheVariants.{ElementToElement, ElementToStructure, AttributeToElement, AttributeToAttribute, MarkerToHighlight, MarkerToElement}
+use Rattle.converter_definitions.specs.declared.stock.StockConverter.TheVariants.{ElementToElement, ElementToStructure, AttributeToElement}
+use Rattle.converter_definitions.specs.declared.stock.StockConverter.TheVariants.{AttributeToAttribute, MarkerToHighlight, MarkerToElement}
 use Rattle.converter_definitions.specs.Pattern.{is_index}
 use Rattle.converter_definitions.specs.declared.plan.ConverterPlan.{ConverterPlan}
 use Rattle.converter_definitions.specs.declared.plan.PlanEntry.TheVariants.{Stock, Boxed}
 use Rattle.settings_definitions.specs.declared.converter_parts.ConverterKind.{ConverterKind}
-use Rattle.settings_definitions.specs.declared.converter_parts.ConverterKind.TheVariants.{Element, Structure, AttributeElement, Attribute, Highlight, Leaf, Custom}
+use Rattle.settings_definitions.specs.declared.converter_parts.ConverterKind.TheVariants.{Element, Structure, AttributeElement, Attribute, Highlight, Leaf}
+use Rattle.settings_definitions.specs.declared.converter_parts.ConverterKind.TheVariants.{Custom}
 use Rattle.settings_definitions.specs.PatternForm.{pattern_at}
 use Rattle.settings_definitions.specs.PriorityForm.{priority_field}
 use Rattle.settings_definitions.specs.ViewForm.{viewed, element_view_at, layer_view_at, attribute_view_at, highlight_view_at, leaf_at}
@@ -87,7 +89,8 @@ reads_index (Err fault) = false
 
 -- whether the text of the attribute is an index: the field `value` of the field `view`, where there is one
 unfoldable pub is_index_view : Bool → Data → Bool
-is_index_view indexes d = option_map_or (λ found. reads_index (pattern_at indexes [] found)) (option_and_then (get (codes "value")) (get (codes "view") d)) false
+is_index_view indexes d = option_map_or (λ found. reads_index (pattern_at indexes [] found))
+    (option_and_then (get (codes "value")) (get (codes "view") d)) false
 
 -- the name of the elements, which has to be there where the text of the attribute is an index
 unfoldable pub element_field : Bool → List ℕ → Data → Result (Option (List ℕ)) FormFault

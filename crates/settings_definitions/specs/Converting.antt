@@ -16,7 +16,8 @@ use Rattle.ck_base.specs.Name.{is_generic}
 
 -- each converter that the plans describe themselves is among the converters, in whatever order
 abbrev pub AreListed : List ConverterPlan → List Converter → Type 0
-AreListed plans converters = (plan : ConverterPlan) (converter : StockConverter) → Contains plans plan → plan.entry ≡ Stock converter → Contains converters (stock converter)
+AreListed plans converters = (plan : ConverterPlan) (converter : StockConverter) → Contains plans plan → plan.entry ≡ Stock converter
+    → Contains converters (stock converter)
 
 -- who writes attributes alone doesn't consume the element
 abbrev pub LeavesElement : Option (List Key × Part) → Type 0
@@ -36,5 +37,7 @@ pub record Serves (plans : List ConverterPlan) (conversion : Conversion) : Type 
 
 -- each element of a document whose name doesn't begin with `$`, as none does that an edit makes, is given a shape, whatever its parent and its index are
 abbrev pub AllConverted : Conversion → List Item → Type 0
-AllConverted conversion items = (path : List ℕ) (id : ℕ) (name : List ℕ) (attributes : Attributes) (children : Items) → item_at path items ≡ Some (element id name attributes children)
-    → is_generic name ≡ false → (parent : List ℕ) (index : Option ℕ) → IsSome (converted conversion (record { name = name; attributes = attributes; parent = parent; index = index }))
+AllConverted conversion items = (path : List ℕ) (id : ℕ) (name : List ℕ) (attributes : Attributes) (children : Items) → item_at path items
+    ≡ Some (element id name attributes children)
+    → is_generic name ≡ false → (parent : List ℕ) (index : Option ℕ)
+    → IsSome (converted conversion (record { name = name; attributes = attributes; parent = parent; index = index }))

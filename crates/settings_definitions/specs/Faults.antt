@@ -4,7 +4,9 @@ use Rattle.json_forms.specs.declared.fault.FormFault.TheVariants.{NotJson, BadFi
 use Rattle.schema_definitions.specs.declared.fault.SchemaFault.{SchemaFault}
 use Rattle.schema_definitions.specs.declared.fault.SchemaFault.TheVariants.{TwiceRegistered, UnknownItem, BadCheck, NoMemory as NoMemoryForSchema}
 use Rattle.settings_definitions.specs.declared.fault.SettingsFault.{SettingsFault}
-use Rattle.settings_definitions.specs.declared.fault.SettingsFault.TheVariants.{NotJson as SettingsNotJson, BadField as SettingsBadField, TwiceRegistered as SettingsTwice, UnknownItem as SettingsUnknown, BadCheck as SettingsBadCheck, NoMemory as SettingsNoMemory}
+use Rattle.settings_definitions.specs.declared.fault.SettingsFault.TheVariants.{NotJson as SettingsNotJson, BadField as SettingsBadField}
+use Rattle.settings_definitions.specs.declared.fault.SettingsFault.TheVariants.{TwiceRegistered as SettingsTwice, UnknownItem as SettingsUnknown}
+use Rattle.settings_definitions.specs.declared.fault.SettingsFault.TheVariants.{BadCheck as SettingsBadCheck, NoMemory as SettingsNoMemory}
 
 -- the fault of a form
 abbrev pub of_form : FormFault → SettingsFault

@@ -20,7 +20,8 @@ use Rattle.schema_definitions.specs.declared.file.Check.TheVariants.{Child, Attr
 use Rattle.schema_definitions.specs.declared.file.Flag.{Flag}
 use Rattle.schema_definitions.specs.declared.file.Flag.TheVariants.{Block, Inline, Limit, Object, Selectable, Content}
 use Rattle.settings_definitions.specs.declared.parts.EntryList.{EntryList}
-use Rattle.settings_definitions.specs.declared.parts.EntryList.TheVariants.{AllowIn, AllowChildren, AllowAttributes, AllowWhere, AllowContentOf, AllowAttributesOf, InheritTypesFrom, InheritAllFrom}
+use Rattle.settings_definitions.specs.declared.parts.EntryList.TheVariants.{AllowIn, AllowChildren, AllowAttributes, AllowWhere, AllowContentOf}
+use Rattle.settings_definitions.specs.declared.parts.EntryList.TheVariants.{AllowAttributesOf, InheritTypesFrom, InheritAllFrom}
 use Rattle.settings_definitions.specs.declared.parts.Places.{Places}
 use Rattle.settings_definitions.specs.declared.parts.Sources.{Sources}
 use Rattle.settings_definitions.specs.declared.parts.Flags.{Flags}
@@ -80,7 +81,14 @@ sources_at path d = do
   allow_attributes_of ← list_at path AllowAttributesOf d
   inherit_types_from ← list_at path InheritTypesFrom d
   inherit_all_from ← list_at path InheritAllFrom d
-  Ok (record { allow_where = allow_where; allow_content_of = allow_content_of; allow_attributes_of = allow_attributes_of; inherit_types_from = inherit_types_from; inherit_all_from = inherit_all_from })
+  Ok (record {
+    allow_where = allow_where;
+    allow_content_of = allow_content_of;
+    allow_attributes_of = allow_attributes_of;
+    inherit_types_from =
+        inherit_types_from;
+    inherit_all_from = inherit_all_from;
+  })
 
 -- its flags
 unfoldable pub flags_at : List ℕ → Data → Result Flags FormFault
@@ -115,7 +123,9 @@ entry_of subject places sources flags = record {
 
 -- the fields that an entry may have
 abbrev pub entry_fields : List (List ℕ)
-entry_fields = codes "item" ∷ codes "extend" ∷ codes "allowIn" ∷ codes "allowChildren" ∷ codes "allowAttributes" ∷ codes "allowWhere" ∷ codes "allowContentOf" ∷ codes "allowAttributesOf" ∷ codes "inheritTypesFrom" ∷ codes "inheritAllFrom" ∷ codes "isBlock" ∷ codes "isInline" ∷ codes "isLimit" ∷ codes "isObject" ∷ codes "isSelectable" ∷ codes "isContent" ∷ []
+entry_fields = codes "item" ∷ codes "extend" ∷ codes "allowIn" ∷ codes "allowChildren" ∷ codes "allowAttributes" ∷ codes "allowWhere"
+    ∷ codes "allowContentOf" ∷ codes "allowAttributesOf" ∷ codes "inheritTypesFrom" ∷ codes "inheritAllFrom" ∷ codes "isBlock" ∷ codes "isInline"
+    ∷ codes "isLimit" ∷ codes "isObject" ∷ codes "isSelectable" ∷ codes "isContent" ∷ []
 
 -- that it has no others
 unfoldable pub only_entry_fields : List ℕ → Data → Result ⊤ FormFault

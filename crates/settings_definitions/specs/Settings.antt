@@ -2,7 +2,8 @@
 --     {"version":NUMBER,"rounds":COUNT,"start":NAME,"schema":[ENTRY,..],"checks":[CHECK,..],"converters":[CONVERTER,..]}
 -- `version` is 1 or 2; in 2 converters may ask for the index of an element, and else the two say the same. `rounds` is from 1 to 1000, and 64 where
 -- it isn't there; `start` and `checks` are optional too.
-use Rattle.std.specs.Prelude.{ℕ, List, [], ◌∷◌, ◌++◌, Bool, ◌&&◌, ◌==◌, not, Option, Some, None, Result, Ok, Err, if◌then◌else◌, codes, option_and_then, option_map, unwrap_or}
+use Rattle.std.specs.Prelude.{ℕ, List, [], ◌∷◌, ◌++◌, Bool, ◌&&◌, ◌==◌, not, Option, Some, None, Result, Ok, Err, if◌then◌else◌, codes, option_and_then}
+use Rattle.std.specs.Prelude.{option_map, unwrap_or}
 use Rattle.std.specs.Option.{option_or}
 use Rattle.serde_json.specs.Data.{Data}
 use Rattle.serde_json.specs.Find.{get, as_array}

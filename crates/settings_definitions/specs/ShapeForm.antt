@@ -5,7 +5,8 @@
 -- container, a text in a UI element, and a UI element holds texts and UI elements alone; an empty element has no children. There are at most 32
 -- nodes on at most 8 levels, and at most one slot. What stands where it must not is refused at its own place. (After the creators of
 -- `elementToStructure` of CKEditor 5.)
-use Rattle.std.specs.Prelude.{ℕ, zero, suc, ◌+◌, List, [], ◌∷◌, Bool, true, false, ◌&&◌, ◌==◌, nat_lt, is_some, Option, Some, None, Result, Ok, Err, if◌then◌else◌, codes, option_and_then, ⊤}
+use Rattle.std.specs.Prelude.{ℕ, zero, suc, ◌+◌, List, [], ◌∷◌, Bool, true, false, ◌&&◌, ◌==◌, nat_lt, is_some, Option, Some, None, Result, Ok, Err}
+use Rattle.std.specs.Prelude.{if◌then◌else◌, codes, option_and_then, ⊤}
 use Rattle.std.specs.Str.{chars, bytes_eq}
 use Rattle.serde_json.specs.Data.{Data, null, boolean, number, string, array, object, Items, no_items, item}
 use Rattle.serde_json.specs.Find.{get, as_str, as_array}

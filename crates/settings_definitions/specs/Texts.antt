@@ -3,7 +3,8 @@ use Rattle.std.specs.Prelude.{ℕ, List, ◌++◌, codes}
 use Rattle.std.specs.Fmt.{decimal}
 use Rattle.machine_definitions.specs.Texts.{quoted_text}
 use Rattle.settings_definitions.specs.declared.fault.SettingsFault.{SettingsFault}
-use Rattle.settings_definitions.specs.declared.fault.SettingsFault.TheVariants.{NotJson, BadField, TwiceRegistered, UnknownItem, BadCheck, UnknownCustom, NoConverter, NoMemory}
+use Rattle.settings_definitions.specs.declared.fault.SettingsFault.TheVariants.{NotJson, BadField, TwiceRegistered, UnknownItem, BadCheck, UnknownCustom}
+use Rattle.settings_definitions.specs.declared.fault.SettingsFault.TheVariants.{NoConverter, NoMemory}
 
 -- want of memory is never printed
 unfoldable pub settings_text : SettingsFault → List ℕ

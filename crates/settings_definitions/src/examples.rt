@@ -8,7 +8,8 @@ ghost use Rattle.converter_definitions.specs.declared.pattern.Pattern.TheVariant
 ghost use Rattle.converter_definitions.specs.declared.stock.StockConverter.TheVariants.{ElementToElement};
 ghost use Rattle.settings_definitions.specs.ConverterForm.{stock_plan};
 ghost use Rattle.settings_definitions.specs.Settings.{form_of, settings_of};
-ghost use Rattle.settings_definitions.specs.declared.fault.SettingsFault.TheVariants.{NotJson, BadField, TwiceRegistered, UnknownItem, BadCheck, UnknownCustom, NoConverter};
+ghost use Rattle.settings_definitions.specs.declared.fault.SettingsFault.TheVariants.{NotJson, BadField, TwiceRegistered, UnknownItem, BadCheck, UnknownCustom};
+ghost use Rattle.settings_definitions.specs.declared.fault.SettingsFault.TheVariants.{NoConverter};
 
 /// What files say.
 pub fn forms()
@@ -53,7 +54,8 @@ pub fn broken_converters()
         ≡ Err (form.BadField (codes "/converters")) }
     ensures no_list { form_of (codes "{\"version\":1,\"schema\":[],\"converters\":{}}")
         ≡ Err (form.BadField (codes "/converters")) }
-    ensures no_index { form_of (codes "{\"version\":1,\"schema\":[],\"converters\":[{\"kind\":\"elementToElement\",\"model\":\"p\",\"view\":{\"name\":\"p\",\"attributes\":{\"n\":{\"index\":1}}}}]}")
+    ensures no_index { form_of (codes
+        "{\"version\":1,\"schema\":[],\"converters\":[{\"kind\":\"elementToElement\",\"model\":\"p\",\"view\":{\"name\":\"p\",\"attributes\":{\"n\":{\"index\":1}}}}]}")
         ≡ Err (form.BadField (codes "/converters/0/view/attributes/n/from")) }
     ensures no_custom_index { form_of (codes "{\"version\":1,\"schema\":[],\"converters\":[{\"kind\":\"custom\",\"name\":\"a\",\"index\":\"p\"}]}")
         ≡ Err (form.BadField (codes "/converters/0/index")) }
@@ -73,20 +75,26 @@ pub fn refusals()
         ≡ Err (UnknownItem (codes "x")) }
     ensures reserved_start { settings_of [] (codes "{\"version\":1,\"start\":\"$block\",\"schema\":[],\"converters\":[]}")
         ≡ Err (UnknownItem (codes "$block")) }
-    ensures unknown { settings_of [] (codes "{\"version\":1,\"schema\":[],\"checks\":[{\"child\":\"q\",\"endsWith\":[],\"answer\":true}],\"converters\":[{\"kind\":\"custom\",\"name\":\"a\"}]}")
+    ensures unknown { settings_of []
+        (codes "{\"version\":1,\"schema\":[],\"checks\":[{\"child\":\"q\",\"endsWith\":[],\"answer\":true}],\"converters\":[{\"kind\":\"custom\",\"name\":\"a\"}]}")
         ≡ Err (UnknownItem (codes "q")) }
-    ensures bad_check { settings_of [] (codes "{\"version\":1,\"schema\":[{\"item\":\"p\"}],\"checks\":[{\"attribute\":\"q\",\"endsWith\":[],\"answer\":true}],\"converters\":[{\"kind\":\"custom\",\"name\":\"a\"}]}")
+    ensures bad_check { settings_of []
+        (codes "{\"version\":1,\"schema\":[{\"item\":\"p\"}],\"checks\":[{\"attribute\":\"q\",\"endsWith\":[],\"answer\":true}],\"converters\":[{\"kind\":\"custom\",\"name\":\"a\"}]}")
         ≡ Err (BadCheck 1) }
 {}
 
 /// Why files are refused because of their converters, where a product's converter `a` is handed in.
 pub fn refusals_of_converters()
-    ensures unknown { settings_of (codes "a" ∷ []) (codes "{\"version\":1,\"schema\":[],\"checks\":[{\"attribute\":\"k\",\"endsWith\":[],\"answer\":true}],\"converters\":[{\"kind\":\"custom\",\"name\":\"b\"},{\"kind\":\"elementToElement\",\"model\":\"p\",\"view\":{\"name\":\"p\"}}]}")
+    ensures unknown { settings_of (codes "a" ∷ [])
+        (codes "{\"version\":1,\"schema\":[],\"checks\":[{\"attribute\":\"k\",\"endsWith\":[],\"answer\":true}],\"converters\":[{\"kind\":\"custom\",\"name\":\"b\"},{\"kind\":\"elementToElement\",\"model\":\"p\",\"view\":{\"name\":\"p\"}}]}")
         ≡ Err (UnknownItem (codes "p")) }
-    ensures not_handed_in { settings_of (codes "a" ∷ []) (codes "{\"version\":1,\"schema\":[{\"item\":\"p\"}],\"converters\":[{\"kind\":\"custom\",\"name\":\"a\"},{\"kind\":\"custom\",\"name\":\"b\"}]}")
+    ensures not_handed_in { settings_of (codes "a" ∷ [])
+        (codes "{\"version\":1,\"schema\":[{\"item\":\"p\"}],\"converters\":[{\"kind\":\"custom\",\"name\":\"a\"},{\"kind\":\"custom\",\"name\":\"b\"}]}")
         ≡ Err (UnknownCustom (codes "b")) }
-    ensures used_twice { settings_of (codes "a" ∷ []) (codes "{\"version\":1,\"schema\":[{\"item\":\"p\"}],\"converters\":[{\"kind\":\"custom\",\"name\":\"a\"},{\"kind\":\"custom\",\"name\":\"a\"}]}")
+    ensures used_twice { settings_of (codes "a" ∷ [])
+        (codes "{\"version\":1,\"schema\":[{\"item\":\"p\"}],\"converters\":[{\"kind\":\"custom\",\"name\":\"a\"},{\"kind\":\"custom\",\"name\":\"a\"}]}")
         ≡ Err (UnknownCustom (codes "a")) }
-    ensures no_converter { settings_of (codes "a" ∷ []) (codes "{\"version\":1,\"schema\":[{\"item\":\"q\"},{\"item\":\"p\"}],\"converters\":[{\"kind\":\"custom\",\"name\":\"a\"},{\"kind\":\"elementToElement\",\"model\":\"q\",\"view\":{\"name\":\"q\"}},{\"kind\":\"elementToElement\",\"model\":\"p\",\"parent\":\"q\",\"view\":{\"name\":\"p\"}}]}")
+    ensures no_converter { settings_of (codes "a" ∷ [])
+        (codes "{\"version\":1,\"schema\":[{\"item\":\"q\"},{\"item\":\"p\"}],\"converters\":[{\"kind\":\"custom\",\"name\":\"a\"},{\"kind\":\"elementToElement\",\"model\":\"q\",\"view\":{\"name\":\"q\"}},{\"kind\":\"elementToElement\",\"model\":\"p\",\"parent\":\"q\",\"view\":{\"name\":\"p\"}}]}")
         ≡ Err (NoConverter (codes "p")) }
 {}

@@ -14,10 +14,12 @@ abbrev document_in : Document → Result Document Refusal → Document
 document_in other (Ok document) = document
 document_in other (Err refusal) = other
 
-tested_obeys : (terms : Terms) (made : Result Document EditFault) (document : Document) → tested terms made ≡ Ok document → breach terms.rules document.items ≡ None
+tested_obeys : (terms : Terms) (made : Result Document EditFault) (document : Document) → tested terms made ≡ Ok document
+    → breach terms.rules document.items ≡ None
 tested_obeys terms (Ok other) document e = go (breach terms.rules other.items) refl e
   where
-    go : (found : Option (Rule × List ℕ)) → breach terms.rules other.items ≡ found → accepted other found ≡ Ok document → breach terms.rules document.items ≡ None
+    go : (found : Option (Rule × List ℕ)) → breach terms.rules other.items ≡ found → accepted other found ≡ Ok document
+        → breach terms.rules document.items ≡ None
     go None b e = subst (λ (document : Document). breach terms.rules document.items ≡ None) (ap (document_in other) e) b
     go (Some found) b e = absurd cc
 tested_obeys terms (Err fault) document e = absurd cc

@@ -14,9 +14,11 @@ pub mod laws;
 
 /// A change is refused by its second edit, and a document by the schema; a start that may not stand in the root is refused.
 pub fn refused()
-    ensures second_edit { step (record { rules = sample }) (InsertElement (0 ∷ []) (codes "paragraph") [] ∷ InsertElement (0 ∷ []) (codes "table") [] ∷ []) empty_document
+    ensures second_edit { step (record { rules = sample }) (InsertElement (0 ∷ []) (codes "paragraph") [] ∷ InsertElement (0 ∷ []) (codes "table") []
+        ∷ []) empty_document
         ≡ Err (Edit (NotRegistered 2 (codes "table"))) }
-    ensures text_in_root { step (record { rules = sample }) (InsertText (0 ∷ []) (codes "x") [] ∷ []) empty_document ≡ Err (Schema (Child (codes "$text") (codes "$root")) (0 ∷ [])) }
+    ensures text_in_root { step (record { rules = sample }) (InsertText (0 ∷ []) (codes "x") [] ∷ []) empty_document
+        ≡ Err (Schema (Child (codes "$text") (codes "$root")) (0 ∷ [])) }
     ensures start { opened (record { rules = sample }) (Some (codes "mention")) ≡ Err (Schema (Child (codes "mention") (codes "$root")) (0 ∷ [])) }
 {}
 

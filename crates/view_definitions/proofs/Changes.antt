@@ -30,7 +30,8 @@ outside-with outer layer (other ∷ layers) e h =
 pub with-in_order : (layer : Layer) (layers : List Layer) → IsInOrder layers → IsInOrder (with_layer layer layers)
 with-in_order layer [] h = (tt, tt)
 with-in_order layer (other ∷ layers) h =
-    elim (layer_cmp other layer) as (λ o. layer_cmp other layer ≡ o → IsInOrder (by_order o (other ∷ with_layer layer layers) (other ∷ layers) (layer ∷ other ∷ layers))) [
+    elim (layer_cmp other layer) as (λ o. layer_cmp other layer ≡ o
+    → IsInOrder (by_order o (other ∷ with_layer layer layers) (other ∷ layers) (layer ∷ other ∷ layers))) [
       | Less ↦ λ e. (outside-with other layer layers e h.0, with-in_order layer layers h.1)
       | Equal ↦ λ e. h
       | Greater ↦ λ e. ((outside-back layer other e, outside-along layer other layers (outside-back layer other e) h.0), h)
@@ -48,8 +49,11 @@ or-itself false b = refl
 pub with-has : (layer third : Layer) (layers : List Layer) → has_layer third (with_layer layer layers) ≡ (same_layer third layer || has_layer third layers)
 with-has layer third [] = refl
 with-has layer third (other ∷ layers) =
-    elim (layer_cmp other layer) as (λ o. layer_cmp other layer ≡ o → has_layer third (by_order o (other ∷ with_layer layer layers) (other ∷ layers) (layer ∷ other ∷ layers)) ≡ (same_layer third layer || (same_layer third other || has_layer third layers))) [
-      | Less ↦ λ e. ap (λ b. same_layer third other || b) (with-has layer third layers) ∙ or-swap (same_layer third other) (same_layer third layer) (has_layer third layers)
+    elim (layer_cmp other layer) as (λ o. layer_cmp other layer ≡ o
+    → has_layer third (by_order o (other ∷ with_layer layer layers) (other ∷ layers) (layer ∷ other ∷ layers))
+    ≡ (same_layer third layer || (same_layer third other || has_layer third layers))) [
+      | Less ↦ λ e. ap (λ b. same_layer third other || b) (with-has layer third layers)
+          ∙ or-swap (same_layer third other) (same_layer third layer) (has_layer third layers)
       | Equal ↦ λ e.
           or-itself (same_layer third other) (has_layer third layers)
           ∙ ap (λ l. same_layer third l || (same_layer third other || has_layer third layers)) (tied_layers other layer e)
@@ -80,11 +84,14 @@ stays : (n s h : Bool) → (s ≡ true → n ≡ true) → (s || (n && h)) ≡ (
 stays n true h e = sym (ap (λ b. b && true) (e refl))
 stays n false h e = refl
 
-pub without-has : (layer third : Layer) (layers : List Layer) → has_layer third (without_layer layer layers) ≡ (not (same_layer layer third) && has_layer third layers)
+pub without-has : (layer third : Layer) (layers : List Layer) → has_layer third (without_layer layer layers)
+    ≡ (not (same_layer layer third) && has_layer third layers)
 without-has layer third [] =
     elim (not (same_layer layer third)) as (λ b. false ≡ (b && false)) [ true ↦ refl | false ↦ refl ]
 without-has layer third (other ∷ layers) =
-    elim (same_layer layer other) as (λ b. same_layer layer other ≡ b → has_layer third (cond (not b) (other ∷ without_layer layer layers) (without_layer layer layers)) ≡ (not (same_layer layer third) && (same_layer third other || has_layer third layers))) [
+    elim (same_layer layer other) as (λ b. same_layer layer other ≡ b
+    → has_layer third (cond (not b) (other ∷ without_layer layer layers) (without_layer layer layers))
+    ≡ (not (same_layer layer third) && (same_layer third other || has_layer third layers))) [
       | true ↦ λ e.
           without-has layer third layers
           ∙ gone (not (same_layer layer third)) (same_layer third other) (has_layer third layers)

@@ -1,21 +1,26 @@
 -- Which counts a change of a list raises.
-use Rattle.std.proofs.Common.{◌≡◌, ◌≢◌, ℕ, zero, suc, List, [], ◌∷◌, ◌++◌, Bool, true, false, ◌||◌, if◌then◌else◌, Option, Some, None, refl, sym, ap, ◌∙◌, subst, arith}
+use Rattle.std.proofs.Common.{◌≡◌, ◌≢◌, ℕ, zero, suc, List, [], ◌∷◌, ◌++◌, Bool, true, false, ◌||◌, if◌then◌else◌, Option, Some, None, refl, sym, ap, ◌∙◌}
+use Rattle.std.proofs.Common.{subst, arith}
 use Rattle.std.proofs.lemmas.Bool.Decides.{nat_tests}
 use Rattle.std.specs.Prelude.{IsSomeAnd, nat_eq, is_some, option_map, option_and_then, option_to_list, slice_get, slice_set}
 use Rattle.std.specs.Option.{option_eq, option_or, option_map_or}
 use Rattle.std.specs.List.{IsDistinct, AllByRecursion, list_any}
 use Rattle.view_definitions.specs.Node.{Head, ViewNode, ViewNodes, text, element, none, more, list_of, nodes_of, children_of}
 use Rattle.view_definitions.specs.NodeCode.{list_of-nodes_of}
-use Rattle.view_definitions.specs.Place.{list_at, at_index, with_inner, put_at, nearest_in, nearest, numbered_or, numbered_on, one_more, counting, counted_in, counted, changed, changes_in, changes_inner, changes_of, numbers_in, numbers_inner, numbers_of}
+use Rattle.view_definitions.specs.Place.{list_at, at_index, with_inner, put_at, nearest_in, nearest, numbered_or, numbered_on, one_more, counting, counted_in}
+use Rattle.view_definitions.specs.Place.{counted, changed, changes_in, changes_inner, changes_of, numbers_in, numbers_inner, numbers_of}
 
-pub at_index-suc : (index : ℕ) (change : ViewNode → ViewNode) (node : ViewNode) (nodes : List ViewNode) → at_index (suc index) change (node ∷ nodes) ≡ node ∷ at_index index change nodes
+pub at_index-suc : (index : ℕ) (change : ViewNode → ViewNode) (node : ViewNode) (nodes : List ViewNode) → at_index (suc index) change (node ∷ nodes)
+    ≡ node ∷ at_index index change nodes
 at_index-suc index change node nodes =
-    elim (slice_get nodes index) as (λ o. option_map_or (λ n. node ∷ slice_set nodes index (change n)) o (node ∷ nodes) ≡ node ∷ option_map_or (λ n. slice_set nodes index (change n)) o nodes) [
+    elim (slice_get nodes index) as (λ o. option_map_or (λ n. node ∷ slice_set nodes index (change n)) o (node ∷ nodes)
+    ≡ node ∷ option_map_or (λ n. slice_set nodes index (change n)) o nodes) [
       | None ↦ refl
       | Some n ↦ refl
     ]
 
-pub at_index-twice : (index : ℕ) (change again : ViewNode → ViewNode) (nodes : List ViewNode) → at_index index again (at_index index change nodes) ≡ at_index index (λ node. again (change node)) nodes
+pub at_index-twice : (index : ℕ) (change again : ViewNode → ViewNode) (nodes : List ViewNode) → at_index index again (at_index index change nodes)
+    ≡ at_index index (λ node. again (change node)) nodes
 at_index-twice index change again [] = refl
 at_index-twice zero change again (node ∷ nodes) = refl
 at_index-twice (suc index) change again (node ∷ nodes) =
@@ -25,7 +30,8 @@ at_index-twice (suc index) change again (node ∷ nodes) =
     ∙ sym (at_index-suc index (λ n. again (change n)) node nodes)
 
 -- what stands at the index of a change
-get-at : (index : ℕ) (change : ViewNode → ViewNode) (nodes : List ViewNode) → slice_get (at_index index change nodes) index ≡ option_map change (slice_get nodes index)
+get-at : (index : ℕ) (change : ViewNode → ViewNode) (nodes : List ViewNode) → slice_get (at_index index change nodes) index
+    ≡ option_map change (slice_get nodes index)
 get-at index change [] = refl
 get-at zero change (node ∷ nodes) = refl
 get-at (suc index) change (node ∷ nodes) = ap (λ list. slice_get list (suc index)) (at_index-suc index change node nodes) ∙ get-at index change nodes
@@ -38,7 +44,8 @@ numbered-put (index ∷ path) new nodes =
     ∙ go (slice_get nodes index) (numbered-put path new)
   where
     go : (node : Option ViewNode) → ((inner : List ViewNode) → numbered_on path (put_at path new inner) ≡ numbered_on path inner)
-        → option_map_or (numbered_or (numbered_on path)) (option_map (with_inner (put_at path new)) node) false ≡ option_map_or (numbered_or (numbered_on path)) node false
+        → option_map_or (numbered_or (numbered_on path)) (option_map (with_inner (put_at path new)) node) false
+        ≡ option_map_or (numbered_or (numbered_on path)) node false
     go None ih = refl
     go (Some (text scalars)) ih = refl
     go (Some (element head children)) ih =
@@ -66,11 +73,13 @@ changed_in path new (text scalars) = text scalars
 changed_in path new (element head children) =
     element (if is_some (nearest path (list_of children)) then head else counting head) (nodes_of (changed path new (list_of children)))
 
-changed-in : (path : List ℕ) (new : List ViewNode) (node : ViewNode) → counted_in (numbered_on path) (counted path) (with_inner (put_at path new) node) ≡ changed_in path new node
+changed-in : (path : List ℕ) (new : List ViewNode) (node : ViewNode) → counted_in (numbered_on path) (counted path) (with_inner (put_at path new) node)
+    ≡ changed_in path new node
 changed-in path new (text scalars) = refl
 changed-in path new (element head children) =
     let inner = list_of-nodes_of (put_at path new (list_of children)) in
-    λ i. element (if (ap (numbered_on path) inner ∙ numbered-put path new (list_of children) ∙ numbered-nearest path (list_of children)) i then head else counting head) (nodes_of (counted path (inner i)))
+    λ i. element (if (ap (numbered_on path) inner ∙ numbered-put path new (list_of children) ∙ numbered-nearest path (list_of children)) i then head
+    else counting head) (nodes_of (counted path (inner i)))
 
 changed-step : (index : ℕ) (path : List ℕ) (new nodes : List ViewNode) → changed (index ∷ path) new nodes ≡ at_index index (changed_in path new) nodes
 changed-step index path new nodes =
@@ -103,7 +112,8 @@ has-append number (other ∷ front) back =
     or-assoc false b c = refl
 
 -- a number is among those of nodes where it has a count
-count-there : (own : Option ℕ) (number changes : ℕ) (below : Option ℕ) → (has number (option_to_list own) || is_some below) ≡ is_some (if option_eq nat_eq own (Some number) then Some changes else below)
+count-there : (own : Option ℕ) (number changes : ℕ) (below : Option ℕ) → (has number (option_to_list own) || is_some below)
+    ≡ is_some (if option_eq nat_eq own (Some number) then Some changes else below)
 count-there None number changes below = refl
 count-there (Some other) number changes below =
     elim (nat_eq other number) as (λ b. ((b || false) || is_some below) ≡ is_some (if b then Some changes else below)) [ true ↦ refl | false ↦ refl ]
@@ -160,7 +170,8 @@ unfolding IsDistinct
 distinct-front [] back d = tt
 distinct-front (number ∷ front) back d = (all-front front d.0, distinct-front front back d.1)
   where
-    all-front : (list : List ℕ) → AllByRecursion (λ other. nat_eq number other ≡ false) (list ++ back) → AllByRecursion (λ other. nat_eq number other ≡ false) list
+    all-front : (list : List ℕ) → AllByRecursion (λ other. nat_eq number other ≡ false) (list ++ back)
+        → AllByRecursion (λ other. nat_eq number other ≡ false) list
     all-front [] h = tt
     all-front (other ∷ list) h = (h.0, all-front list h.1)
 
@@ -182,24 +193,29 @@ same-at number (suc index) change (first ∷ nodes) node e h =
 
 -- the head of an element that isn't the nearest one to a change has the same count
 head-same : (number : ℕ) (head : Head) (near below : Option ℕ) → option_or near head.number ≢ Some number
-    → (if option_eq nat_eq (if is_some near then head else counting head).number (Some number) then Some (if is_some near then head else counting head).changes else below)
+    → (if option_eq nat_eq (if is_some near then head else counting head).number (Some number)
+    then Some (if is_some near then head else counting head).changes else below)
     ≡ (if option_eq nat_eq head.number (Some number) then Some head.changes else below)
 head-same number head (Some other) below h = refl
 head-same number head None below h = go head.number refl
   where
     go : (own : Option ℕ) → head.number ≡ own
-        → (if option_eq nat_eq (counting head).number (Some number) then Some (counting head).changes else below) ≡ (if option_eq nat_eq head.number (Some number) then Some head.changes else below)
+        → (if option_eq nat_eq (counting head).number (Some number) then Some (counting head).changes else below)
+        ≡ (if option_eq nat_eq head.number (Some number) then Some head.changes else below)
     go None e = rw e refl
     go (Some other) e =
         let other_one : nat_eq other number ≡ false = grind (arith, nat_tests, h) in
         rw e (rw other_one refl)
 
 -- the count of an element whose children are changed
-changed-element : (number : ℕ) (path : List ℕ) (new : List ViewNode) (head : Head) (children : ViewNodes) (after : Option ℕ) → changes_of number (changed path new (list_of children)) ≡ after
+changed-element : (number : ℕ) (path : List ℕ) (new : List ViewNode) (head : Head) (children : ViewNodes) (after : Option ℕ)
+    → changes_of number (changed path new (list_of children)) ≡ after
     → changes_in number (changed_in path new (element head children))
-    ≡ (if option_eq nat_eq (if is_some (nearest path (list_of children)) then head else counting head).number (Some number) then Some (if is_some (nearest path (list_of children)) then head else counting head).changes else after)
+    ≡ (if option_eq nat_eq (if is_some (nearest path (list_of children)) then head else counting head).number (Some number)
+    then Some (if is_some (nearest path (list_of children)) then head else counting head).changes else after)
 changed-element number path new head children after h =
-    ap (λ below. if option_eq nat_eq (if is_some (nearest path (list_of children)) then head else counting head).number (Some number) then Some (if is_some (nearest path (list_of children)) then head else counting head).changes else below)
+    ap (λ below. if option_eq nat_eq (if is_some (nearest path (list_of children)) then head else counting head).number (Some number)
+    then Some (if is_some (nearest path (list_of children)) then head else counting head).changes else below)
     (listed-changes number (changed path new (list_of children)) ∙ h)
 
 pub others-keep : (path : List ℕ) (new old nodes : List ViewNode) (number : ℕ) → list_at path nodes ≡ Some old → nearest path nodes ≢ Some number
@@ -211,7 +227,8 @@ others-keep (index ∷ path) new old nodes number e n h =
   where
     go : (node : Option ViewNode) → slice_get nodes index ≡ node → option_and_then (λ node. option_and_then (list_at path) (children_of node)) node ≡ Some old
         → option_and_then (nearest_in (nearest path)) node ≢ Some number
-        → ((inner : List ViewNode) → list_at path inner ≡ Some old → nearest path inner ≢ Some number → changes_of number (changed path new inner) ≡ changes_of number inner)
+        → ((inner : List ViewNode) → list_at path inner ≡ Some old → nearest path inner ≢ Some number → changes_of number (changed path new inner)
+        ≡ changes_of number inner)
         → changes_of number (at_index index (changed_in path new) nodes) ≡ changes_of number nodes
     go None s l m ih = cc
     go (Some (text scalars)) s l m ih = cc
@@ -244,7 +261,8 @@ not-own number (Some other) h = go (nat_eq other number) h
     go false e = refl
 
 -- a number that has no count among nodes behind others has one there alone
-none-before : (number : ℕ) (node : ViewNode) (nodes : List ViewNode) → IsDistinct nat_eq (numbers_in node ++ numbers_of nodes) → is_some (changes_of number nodes) ≡ true → changes_in number node ≡ None
+none-before : (number : ℕ) (node : ViewNode) (nodes : List ViewNode) → IsDistinct nat_eq (numbers_in node ++ numbers_of nodes)
+    → is_some (changes_of number nodes) ≡ true → changes_in number node ≡ None
 none-before number node nodes d h =
     go (changes_in number node) (sym (node-there number node) ∙ apart number (numbers_in node) (numbers_of nodes) d (there number nodes ∙ h))
   where
@@ -252,23 +270,28 @@ none-before number node nodes d h =
     go None e = refl
     go (Some count) e = cc
 
-more-at : (number index : ℕ) (change : ViewNode → ViewNode) (nodes : List ViewNode) (node : ViewNode) → IsDistinct nat_eq (numbers_of nodes) → slice_get nodes index ≡ Some node
-    → (IsDistinct nat_eq (numbers_in node) → Raises (changes_in number node) (changes_in number (change node))) → Raises (changes_of number nodes) (changes_of number (at_index index change nodes))
+more-at : (number index : ℕ) (change : ViewNode → ViewNode) (nodes : List ViewNode) (node : ViewNode) → IsDistinct nat_eq (numbers_of nodes)
+    → slice_get nodes index ≡ Some node
+    → (IsDistinct nat_eq (numbers_in node) → Raises (changes_in number node) (changes_in number (change node)))
+    → Raises (changes_of number nodes) (changes_of number (at_index index change nodes))
 more-at number index change [] node d e h = cc
 more-at number zero change (first ∷ nodes) node d e h =
     let same : node ≡ first = cc in
     raises-or (changes_in number first) (changes_in number (change first)) (changes_of number nodes)
-    (subst (λ n. IsDistinct nat_eq (numbers_in n) → Raises (changes_in number n) (changes_in number (change n))) same h (distinct-front (numbers_in first) (numbers_of nodes) d))
+    (subst (λ n. IsDistinct nat_eq (numbers_in n) → Raises (changes_in number n) (changes_in number (change n))) same h
+    (distinct-front (numbers_in first) (numbers_of nodes) d))
 more-at number (suc index) change (first ∷ nodes) node d e h =
     let rest = more-at number index change nodes node (distinct-back (numbers_in first) (numbers_of nodes) d) e h in
     let none_here = none-before number first nodes d (raises-some (changes_of number nodes) (changes_of number (at_index index change nodes)) rest) in
     subst (λ list. Raises (changes_of number (first ∷ nodes)) (changes_of number list)) (sym (at_index-suc index change first nodes))
-    (subst (λ count. Raises (option_or count (changes_of number nodes)) (option_or count (changes_of number (at_index index change nodes)))) (sym none_here) rest)
+    (subst (λ count. Raises (option_or count (changes_of number nodes)) (option_or count (changes_of number (at_index index change nodes))))
+    (sym none_here) rest)
 
 head-more : (number : ℕ) (head : Head) (near below after : Option ℕ) → option_or near head.number ≡ Some number
     → (near ≡ Some number → Raises below after × (has number (option_to_list head.number) ≡ false))
     → Raises (if option_eq nat_eq head.number (Some number) then Some head.changes else below)
-    (if option_eq nat_eq (if is_some near then head else counting head).number (Some number) then Some (if is_some near then head else counting head).changes else after)
+    (if option_eq nat_eq (if is_some near then head else counting head).number (Some number)
+    then Some (if is_some near then head else counting head).changes else after)
 head-more number head (Some other) below after e h =
     let found = h e in
     subst (λ b. Raises (if b then Some head.changes else below) (if b then Some head.changes else after)) (sym (not-own number head.number found.1)) found.0
@@ -284,7 +307,8 @@ nearest-counts (index ∷ path) new nodes number d e =
     (go (slice_get nodes index) refl e (λ inner a m. nearest-counts path new inner number a m))
   where
     go : (node : Option ViewNode) → slice_get nodes index ≡ node → option_and_then (nearest_in (nearest path)) node ≡ Some number
-        → ((inner : List ViewNode) → IsDistinct nat_eq (numbers_of inner) → nearest path inner ≡ Some number → Raises (changes_of number inner) (changes_of number (changed path new inner)))
+        → ((inner : List ViewNode) → IsDistinct nat_eq (numbers_of inner) → nearest path inner ≡ Some number
+        → Raises (changes_of number inner) (changes_of number (changed path new inner)))
         → Raises (changes_of number nodes) (changes_of number (at_index index (changed_in path new) nodes))
     go None s m ih = cc
     go (Some (text scalars)) s m ih = cc
@@ -294,12 +318,14 @@ nearest-counts (index ∷ path) new nodes number d e =
         let kids = list_of children in
         let own = option_to_list head.number in
         let inner = subst (λ list. IsDistinct nat_eq (own ++ list)) (inner-numbers children) a in
-        subst (Raises (changes_in number (element head children))) (sym (changed-element number path new head children (changes_of number (changed path new kids)) refl))
+        subst (Raises (changes_in number (element head children)))
+        (sym (changed-element number path new head children (changes_of number (changed path new kids)) refl))
         (head-more number head (nearest path kids) (changes_inner number children) (changes_of number (changed path new kids)) m
         (λ near.
         let raises = ih kids (distinct-back own (numbers_of kids) inner) near in (
           subst (λ count. Raises count (changes_of number (changed path new kids))) (sym (inner-changes number children)) raises,
-          apart number own (numbers_of kids) inner (there number kids ∙ raises-some (changes_of number kids) (changes_of number (changed path new kids)) raises),
+          apart number own (numbers_of kids) inner (there number kids ∙ raises-some (changes_of number kids) (changes_of number (changed path new kids))
+              raises),
         ))))
 
 -- ---- what a list brings
@@ -326,7 +352,8 @@ head-none number head new_head below after same e = go (option_eq nat_eq head.nu
     go true t f = cc
     go false t f = (f, ap (λ b. if b then Some new_head.changes else after) (ap (λ own. option_eq nat_eq own (Some number)) same ∙ t))
 
-new-at : (number index : ℕ) (change : ViewNode → ViewNode) (nodes : List ViewNode) (node : ViewNode) (count : Option ℕ) → slice_get nodes index ≡ Some node → changes_of number nodes ≡ None
+new-at : (number index : ℕ) (change : ViewNode → ViewNode) (nodes : List ViewNode) (node : ViewNode) (count : Option ℕ) → slice_get nodes index
+    ≡ Some node → changes_of number nodes ≡ None
     → (changes_in number node ≡ None → changes_in number (change node) ≡ count) → changes_of number (at_index index change nodes) ≡ count
 new-at number index change [] node count s e h = cc
 new-at number zero change (first ∷ nodes) node count s e h =
@@ -350,7 +377,8 @@ new-bring (index ∷ path) new old nodes number e n =
     ∙ go (slice_get nodes index) refl e (λ inner l m. new-bring path new old inner number l m)
   where
     go : (node : Option ViewNode) → slice_get nodes index ≡ node → option_and_then (λ node. option_and_then (list_at path) (children_of node)) node ≡ Some old
-        → ((inner : List ViewNode) → list_at path inner ≡ Some old → changes_of number inner ≡ None → changes_of number (changed path new inner) ≡ changes_of number new)
+        → ((inner : List ViewNode) → list_at path inner ≡ Some old → changes_of number inner ≡ None → changes_of number (changed path new inner)
+        ≡ changes_of number new)
         → changes_of number (at_index index (changed_in path new) nodes) ≡ changes_of number new
     go None s l ih = cc
     go (Some (text scalars)) s l ih = cc
@@ -359,5 +387,6 @@ new-bring (index ∷ path) new old nodes number e n =
         (λ none_here.
         let kids = list_of children in
         let near = is_some (nearest path kids) in
-        let own = head-none number head (if near then head else counting head) (changes_inner number children) (changes_of number new) (head-number near head) none_here in
+        let own = head-none number head (if near then head else counting head) (changes_inner number children) (changes_of number new)
+        (head-number near head) none_here in
         changed-element number path new head children (changes_of number new) (ih kids l (sym (inner-changes number children) ∙ own.0)) ∙ own.1)

@@ -17,7 +17,8 @@ layer_cmp-total =
     then_total (on_total (λ (l : Layer). l.priority) int_cmp_total)
     (then_total (on_total identity_text nat_list_cmp_total)
     (then_total (on_total (λ (l : Layer). l.id) (options_total nat_list_cmp_total))
-    (on_total (λ (l : Layer). l.attrs) (lists_total (then_total (on_total (λ (p : List ℕ × List ℕ). p.0) nat_list_cmp_total) (on_total (λ (p : List ℕ × List ℕ). p.1) nat_list_cmp_total))))))
+    (on_total (λ (l : Layer). l.attrs)
+    (lists_total (then_total (on_total (λ (p : List ℕ × List ℕ). p.0) nat_list_cmp_total) (on_total (λ (p : List ℕ × List ℕ). p.1) nat_list_cmp_total))))))
 
 then-first : (o p : Ordering) → ordering_then o p ≡ Equal → o ≡ Equal
 then-first Less p e = e
@@ -52,9 +53,11 @@ tied_layers layer other e =
     let priorities : layer.priority ≡ other.priority = int_cmp-IsAntisymmetric layer.priority other.priority (then-first _ _ e) in
     let texts : identity_text layer ≡ identity_text other = same_name _ _ (then-first _ _ e1) in
     let ids : layer.id ≡ other.id = same_id layer.id other.id (then-first _ _ e2) in
-    let attributes : layer.attrs ≡ other.attrs = slice_cmp-IsAntisymmetric same_pair layer.attrs other.attrs (then-second (option_cmp name_cmp layer.id other.id) _ e2) in
+    let attributes : layer.attrs ≡ other.attrs = slice_cmp-IsAntisymmetric same_pair layer.attrs other.attrs
+    (then-second (option_cmp name_cmp layer.id other.id) _ e2) in
     let behind = λ (attrs : List (List ℕ × List ℕ)). flat_map (λ (entry : List ℕ × List ℕ). 32 ∷ (entry.0 ++ 61 ∷ 34 ∷ (entry.1 ++ 34 ∷ []))) attrs in
-    let names : layer.name ≡ other.name = append_cancel_right layer.name other.name (behind layer.attrs) (texts ∙ ap (λ attrs. other.name ++ behind attrs) (sym attributes)) in
+    let names : layer.name ≡ other.name = append_cancel_right layer.name other.name (behind layer.attrs) (texts
+    ∙ ap (λ attrs. other.name ++ behind attrs) (sym attributes)) in
     λ i. record { name = names i; attrs = attributes i; priority = priorities i; id = ids i }
 
 is_eq-Equal : (o : Ordering) → is_eq o ≡ true → o ≡ Equal

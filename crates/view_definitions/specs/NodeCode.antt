@@ -2,7 +2,8 @@
 use Rattle.std.specs.Prelude.{◌≡◌, ℕ, ℤ, Bool, true, false, ◌⊎◌, List, [], ◌∷◌, Option, Some, None, refl}
 use Rattle.std.proofs.Common.{inl, inr, ap, ◌∙◌}
 use Rattle.std.specs.Coded.{Coded, code_by, coded_ℕ, coded_ℤ, coded_bool, coded_list, coded_option, coded×, coded⊎}
-use Rattle.view_definitions.specs.Node.{ViewAttributes, Kind, container, attribute, empty, ui, Head, ViewNode, ViewNodes, text, element, none, more, list_of, nodes_of}
+use Rattle.view_definitions.specs.Node.{ViewAttributes, Kind, container, attribute, empty, ui, Head, ViewNode, ViewNodes, text, element, none, more, list_of}
+use Rattle.view_definitions.specs.Node.{nodes_of}
 
 abbrev KindParts : Type 0
 KindParts = Option Bool ⊎ (ℤ × Option (List ℕ))
@@ -42,7 +43,8 @@ head_from parts = record { kind = parts.0; name = parts.1.0; attributes = parts.
 -- a code for heads
 abbrev pub coded_head : Coded Head
 coded_head =
-    code_by HeadParts (coded× coded_kind (coded× (coded_list coded_ℕ) (coded× (coded_list (coded× (coded_list coded_ℕ) (coded_list coded_ℕ))) (coded× (coded_option coded_ℕ) coded_ℕ))))
+    code_by HeadParts (coded× coded_kind
+    (coded× (coded_list coded_ℕ) (coded× (coded_list (coded× (coded_list coded_ℕ) (coded_list coded_ℕ))) (coded× (coded_option coded_ℕ) coded_ℕ))))
     head_parts head_from (λ _. refl)
 
 -- a text, the head of an element, or the end of one

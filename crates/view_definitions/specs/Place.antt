@@ -1,6 +1,7 @@
 -- Where nodes stand. A path is a list of child indices, which leads from the view's own list of nodes to an element or a text; the empty
 -- path stands for that list itself.
-use Rattle.std.specs.Prelude.{ℕ, ◌+◌, ◌-◌, ◌^◌, min, List, [], ◌∷◌, ◌++◌, Bool, false, ◌||◌, nat_eq, is_some, if◌then◌else◌, Option, Some, None, option_and_then, option_to_list, slice_get, slice_set}
+use Rattle.std.specs.Prelude.{ℕ, ◌+◌, ◌-◌, ◌^◌, min, List, [], ◌∷◌, ◌++◌, Bool, false, ◌||◌, nat_eq, is_some, if◌then◌else◌, Option, Some, None}
+use Rattle.std.specs.Prelude.{option_and_then, option_to_list, slice_get, slice_set}
 use Rattle.std.specs.Option.{option_eq, option_or, option_map_or}
 use Rattle.view_definitions.specs.Node.{Head, ViewNode, ViewNodes, text, element, none, more, list_of, nodes_of, children_of}
 

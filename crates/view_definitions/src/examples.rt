@@ -27,8 +27,10 @@ pub fn two_layers()
 
 /// Links over bold over italic, around an object: equal neighbours are one on every level, and neighbouring characters are one text.
 pub fn three_layers()
-    ensures { nest (letter 97 (link ∷ []) ∷ letter 98 (link ∷ bold ∷ []) ∷ an_object (link ∷ bold ∷ italic ∷ []) ∷ letter 99 (link ∷ bold ∷ italic ∷ []) ∷ letter 100 (link ∷ bold ∷ italic ∷ []) ∷ [])
-        ≡ in_layer link (text (97 ∷ []) ∷ in_layer bold (text (98 ∷ []) ∷ in_layer italic (bare_element container 111 ∷ text (99 ∷ 100 ∷ []) ∷ []) ∷ []) ∷ []) ∷ [] }
+    ensures { nest (letter 97 (link ∷ []) ∷ letter 98 (link ∷ bold ∷ []) ∷ an_object (link ∷ bold ∷ italic ∷ []) ∷ letter 99 (link ∷ bold ∷ italic ∷ [])
+        ∷ letter 100 (link ∷ bold ∷ italic ∷ []) ∷ [])
+        ≡ in_layer link (text (97 ∷ []) ∷ in_layer bold (text (98 ∷ []) ∷ in_layer italic (bare_element container 111 ∷ text (99 ∷ 100 ∷ []) ∷ []) ∷ [])
+        ∷ []) ∷ [] }
 {}
 
 /// Different ids and different priorities stay apart, and so do layers on both sides of a leaf.
@@ -84,7 +86,8 @@ pub fn counts()
     ensures nearest_inner { nearest (0 ∷ 0 ∷ []) (paragraph (Some 3) 0 (paragraph (Some 5) 1 (text (97 ∷ []) ∷ []) ∷ []) ∷ []) ≡ Some 5 }
     ensures nearest_outer { nearest (0 ∷ 0 ∷ []) (paragraph (Some 3) 0 (paragraph None 0 (text (97 ∷ []) ∷ []) ∷ []) ∷ []) ≡ Some 3 }
     ensures nearest_none { nearest (0 ∷ 0 ∷ []) (paragraph None 0 (paragraph None 0 (text (97 ∷ []) ∷ []) ∷ []) ∷ []) ≡ None }
-    ensures none { changed (0 ∷ 0 ∷ []) [] (paragraph None 0 (paragraph None 0 (text (97 ∷ []) ∷ []) ∷ []) ∷ []) ≡ paragraph None 0 (paragraph None 0 [] ∷ []) ∷ [] }
+    ensures none { changed (0 ∷ 0 ∷ []) [] (paragraph None 0 (paragraph None 0 (text (97 ∷ []) ∷ []) ∷ []) ∷ [])
+        ≡ paragraph None 0 (paragraph None 0 [] ∷ []) ∷ [] }
     ensures brought { changed (0 ∷ []) (paragraph (Some 4) 6 [] ∷ []) (paragraph (Some 3) 0 (paragraph (Some 5) 1 [] ∷ []) ∷ [])
         ≡ paragraph (Some 3) 1 (paragraph (Some 4) 6 [] ∷ []) ∷ [] }
     ensures of_number { changes_of 5 (text [] ∷ paragraph (Some 3) 0 (paragraph (Some 5) 7 [] ∷ []) ∷ []) ≡ Some 7 }

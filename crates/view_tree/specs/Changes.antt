@@ -1,5 +1,6 @@
 -- Changes of a node and of a view.
-use Rattle.std.specs.Prelude.{◌≡◌, ℕ, ◌<◌, IsSomeAnd, List, [], ◌∷◌, length, nat_le, if◌then◌else◌, Option, Some, None, option_map, option_and_then, slice_get, insert, remove}
+use Rattle.std.specs.Prelude.{◌≡◌, ℕ, ◌<◌, IsSomeAnd, List, [], ◌∷◌, length, nat_le, if◌then◌else◌, Option, Some, None, option_map, option_and_then, slice_get}
+use Rattle.std.specs.Prelude.{insert, remove}
 use Rattle.view_definitions.specs.Node.{ViewNode, text, element, list_of, nodes_of}
 use Rattle.view_definitions.specs.Layer.{Layer, layer_of}
 use Rattle.view_definitions.specs.Place.{counting, list_at, changed}

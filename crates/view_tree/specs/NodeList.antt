@@ -12,4 +12,5 @@ pub record NodeList : Type 0 where
 -- a code for lists of nodes
 abbrev pub coded_node_list : Coded NodeList
 coded_node_list =
-    code_by (List ViewNode × ℕ) (coded× coded_nodes coded_ℕ) (λ list. (list.nodes, list.spare)) (λ parts. record { nodes = parts.0; spare = parts.1 }) (λ _. refl)
+    code_by (List ViewNode × ℕ) (coded× coded_nodes coded_ℕ) (λ list. (list.nodes, list.spare)) (λ parts. record { nodes = parts.0; spare = parts.1 })
+    (λ _. refl)

@@ -1,4 +1,5 @@
-ghost use Rattle.std.specs.Prelude.{◌≡◌, ◌↔◌, ◌+◌, ◌≤◌, ◌<◌, ◌++◌, ℕ, [], ◌∷◌, true, None, Some, length, is_some, OnOk, OnErr, IfOk, IfSome, IfNone, IsTrue, IsNone, IsErrOf, slice_get, option_copied, option_map, option_to_list, take, drop, reverse};
+ghost use Rattle.std.specs.Prelude.{◌≡◌, ◌↔◌, ◌+◌, ◌≤◌, ◌<◌, ◌++◌, ℕ, [], ◌∷◌, true, None, Some, length, is_some, OnOk, OnErr, IfOk, IfSome, IfNone, IsTrue};
+ghost use Rattle.std.specs.Prelude.{IsNone, IsErrOf, slice_get, option_copied, option_map, option_to_list, take, drop, reverse};
 ghost use Rattle.view_definitions.specs.Node.{ViewNode, Head, text, element, nodes_of, children_of};
 ghost use Rattle.view_definitions.specs.Place.{counting};
 ghost use Rattle.view_definitions.specs.Layer.{layer_of, in_layer};

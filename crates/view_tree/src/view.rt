@@ -1,4 +1,5 @@
-ghost use Rattle.std.specs.Prelude.{◌≡◌, ◌↔◌, ◌+◌, ◌-◌, ◌^◌, ◌<◌, [], true, None, Some, OnOk, OnErr, IfOk, IfErr, IsErr, IsErrOf, IsNone, unwrap_or, option_map};
+ghost use Rattle.std.specs.Prelude.{◌≡◌, ◌↔◌, ◌+◌, ◌-◌, ◌^◌, ◌<◌, [], true, None, Some, OnOk, OnErr, IfOk, IfErr, IsErr, IsErrOf, IsNone, unwrap_or};
+ghost use Rattle.std.specs.Prelude.{option_map};
 ghost use Rattle.view_definitions.specs.Node.{ViewNode};
 ghost use Rattle.view_definitions.specs.Place.{node_at, list_at, changes_of};
 ghost use Rattle.view_tree.specs.Kinds.{is_element, node_of};

@@ -1,11 +1,13 @@
 -- A nested row is cut where its entries are.
-use Rattle.std.proofs.Common.{◌≡◌, ℕ, ◌+◌, ◌-◌, ◌<◌, zero, suc, List, [], ◌∷◌, ◌++◌, length, take, drop, Bool, true, false, if◌then◌else◌, Option, Some, None, is_some, refl, sym, ap, ◌∙◌, subst, arith}
+use Rattle.std.proofs.Common.{◌≡◌, ℕ, ◌+◌, ◌-◌, ◌<◌, zero, suc, List, [], ◌∷◌, ◌++◌, length, take, drop, Bool, true, false, if◌then◌else◌, Option, Some, None}
+use Rattle.std.proofs.Common.{is_some, refl, sym, ap, ◌∙◌, subst, arith}
 use Rattle.std.specs.Prelude.{nat_le, nat_eq}
 use Rattle.std.proofs.lemmas.Bool.Decides.{nat_tests}
 use Rattle.view_definitions.specs.Node.{Head, ViewNode, text, element, ViewNodes, none, more, list_of, nodes_of}
 use Rattle.view_definitions.specs.NodeCode.{list_of-nodes_of}
 use Rattle.view_definitions.specs.Layer.{Layer, layer_of, layer_head, in_layer}
-use Rattle.view_definitions.specs.Row.{Content, leaf, item, character, caret, Entry, nothing, put, shown, nest, both_layers, joins, join_node, join, is_plain, IsPlainRow}
+use Rattle.view_definitions.specs.Row.{Content, leaf, item, character, caret, Entry, nothing, put, shown, nest, both_layers, joins, join_node, join, is_plain}
+use Rattle.view_definitions.specs.Row.{IsPlainRow}
 use Rattle.view_definitions.proofs.Layers.{same_layer-itself, same_layer-true}
 use Rattle.view_definitions.proofs.Joins.{join_node-apart, join-in_layer, node-stays, leaf_none, item_none, nest-cons}
 use Rattle.view_wrap.specs.Cut.{Parts, entries_in, entries_inner, entries_of, cut_before, cut_element, cut_node, cut_inner, cut}
@@ -13,7 +15,8 @@ use Rattle.view_wrap.proofs.Cutting.{cut_layer, entries_inner-is}
 
 -- ---- the cut at a first node
 
-cut_behind : (at : ℕ) (node : ViewNode) (nodes : List ViewNode) → nat_le (entries_in node) at ≡ true → cut at (node ∷ nodes) ≡ (node ∷ (cut (at - entries_in node) nodes).0, (cut (at - entries_in node) nodes).1)
+cut_behind : (at : ℕ) (node : ViewNode) (nodes : List ViewNode) → nat_le (entries_in node) at ≡ true → cut at (node ∷ nodes)
+    ≡ (node ∷ (cut (at - entries_in node) nodes).0, (cut (at - entries_in node) nodes).1)
 cut_behind at node nodes e = ap (λ b. cut_before b (nat_eq at 0) node nodes (cut_node at node) (cut (at - entries_in node) nodes)) e
 
 cut_start : (node : ViewNode) (nodes : List ViewNode) → nat_le (entries_in node) 0 ≡ false → cut 0 (node ∷ nodes) ≡ ([], node ∷ nodes)
@@ -22,7 +25,8 @@ cut_start node nodes e = ap (λ b. cut_before b true node nodes (cut_node 0 node
 not_start : (at : ℕ) → nat_eq (suc at) 0 ≡ false
 not_start at = grind (arith, nat_tests)
 
-cut_within : (at : ℕ) (node : ViewNode) (nodes : List ViewNode) → nat_le (entries_in node) (suc at) ≡ false → cut (suc at) (node ∷ nodes) ≡ ((cut_node (suc at) node).0, (cut_node (suc at) node).1 ++ nodes)
+cut_within : (at : ℕ) (node : ViewNode) (nodes : List ViewNode) → nat_le (entries_in node) (suc at) ≡ false → cut (suc at) (node ∷ nodes)
+    ≡ ((cut_node (suc at) node).0, (cut_node (suc at) node).1 ++ nodes)
 cut_within at node nodes e = λ i. cut_before (e i) (not_start at i) node nodes (cut_node (suc at) node) (cut (suc at - entries_in node) nodes)
 
 not_within : (n : ℕ) → 0 < n → nat_le n 0 ≡ false
@@ -89,7 +93,8 @@ layer-entries layer nodes = entries_inner-is (nodes_of nodes) ∙ ap entries_of 
 layer-full : (layer : Layer) (nodes : List ViewNode) → 0 < entries_of nodes → AreFullNodes nodes → IsFull (in_layer layer nodes)
 layer-full layer nodes c h = (refl, subst (λ n. 0 < n) (sym (entries_inner-is (nodes_of nodes) ∙ ap entries_of (list_of-nodes_of nodes))) c, full-nodes nodes h)
 
-layer-cut : (at : ℕ) (layer : Layer) (nodes : List ViewNode) → cut_node at (in_layer layer nodes) ≡ (in_layer layer (cut at nodes).0 ∷ [], in_layer layer (cut at nodes).1 ∷ [])
+layer-cut : (at : ℕ) (layer : Layer) (nodes : List ViewNode) → cut_node at (in_layer layer nodes)
+    ≡ (in_layer layer (cut at nodes).0 ∷ [], in_layer layer (cut at nodes).1 ∷ [])
 layer-cut at layer nodes =
     cut_layer at layer (layer_head layer) (nodes_of nodes) refl
     ∙ ap (λ list. (in_layer layer (cut at list).0 ∷ [], in_layer layer (cut at list).1 ∷ [])) (list_of-nodes_of nodes)
@@ -97,7 +102,8 @@ layer-cut at layer nodes =
 full-entries : (node : ViewNode) → IsFull node → 0 < entries_in node
 full-entries (text scalars) h = h
 full-entries (element head children) h =
-    elim (layer_of head) as (λ own. IsFullElement own head (entries_inner children) (AreFull children) → 0 < (if is_some own then entries_inner children else 1)) [
+    elim (layer_of head) as (λ own. IsFullElement own head (entries_inner children) (AreFull children)
+    → 0 < (if is_some own then entries_inner children else 1)) [
       | None ↦ λ k. omega arith
       | Some layer ↦ λ k. k.1
     ] h
@@ -131,7 +137,8 @@ module _ (node next made : ViewNode) (nodes : List ViewNode) (e : entries_in mad
     (j : (rest : List ViewNode) → join_node node (next ∷ rest) ≡ made ∷ rest)
     (start : cut_node 1 made ≡ (node ∷ [], next ∷ []))
     (inside : (at : ℕ) → cut_node (suc (suc at)) made ≡ (join_node node (cut_node (suc at) next).0, (cut_node (suc at) next).1)) where
-  grown_inside : (at : ℕ) → nat_le (entries_in next) at ≡ false → cut (suc at) (made ∷ nodes) ≡ (join_node node (cut at (next ∷ nodes)).0, (cut at (next ∷ nodes)).1)
+  grown_inside : (at : ℕ) → nat_le (entries_in next) at ≡ false → cut (suc at) (made ∷ nodes)
+      ≡ (join_node node (cut at (next ∷ nodes)).0, (cut at (next ∷ nodes)).1)
   grown_inside zero t =
       cut_within 0 made nodes (step_within (entries_in next) (entries_in made) 0 false e t)
       ∙ ap (λ (parts : Parts). (parts.0, parts.1 ++ nodes)) start
@@ -142,7 +149,8 @@ module _ (node next made : ViewNode) (nodes : List ViewNode) (e : entries_in mad
       ∙ ap (λ (parts : Parts). (parts.0, parts.1 ++ nodes)) (inside at)
       ∙ ap (λ (parts : Parts). (join_node node parts.0, parts.1)) (sym (cut_within at next nodes t))
 
-  grown_behind : (at : ℕ) → nat_le (entries_in next) at ≡ true → cut (suc at) (made ∷ nodes) ≡ (join_node node (cut at (next ∷ nodes)).0, (cut at (next ∷ nodes)).1)
+  grown_behind : (at : ℕ) → nat_le (entries_in next) at ≡ true → cut (suc at) (made ∷ nodes)
+      ≡ (join_node node (cut at (next ∷ nodes)).0, (cut at (next ∷ nodes)).1)
   grown_behind at t =
       cut_behind (suc at) made nodes (step_within (entries_in next) (entries_in made) at true e t)
       ∙ ap (λ left. (made ∷ (cut left nodes).0, (cut left nodes).1)) (step_less (entries_in next) (entries_in made) at e)
@@ -151,7 +159,8 @@ module _ (node next made : ViewNode) (nodes : List ViewNode) (e : entries_in mad
 
   grown_cuts : (at : ℕ) → cut (suc at) (made ∷ nodes) ≡ (join_node node (cut at (next ∷ nodes)).0, (cut at (next ∷ nodes)).1)
   grown_cuts at =
-      elim (nat_le (entries_in next) at) as (λ b. nat_le (entries_in next) at ≡ b → cut (suc at) (made ∷ nodes) ≡ (join_node node (cut at (next ∷ nodes)).0, (cut at (next ∷ nodes)).1)) [
+      elim (nat_le (entries_in next) at) as (λ b. nat_le (entries_in next) at ≡ b → cut (suc at) (made ∷ nodes)
+      ≡ (join_node node (cut at (next ∷ nodes)).0, (cut at (next ∷ nodes)).1)) [
         | true ↦ λ t. grown_behind at t
         | false ↦ λ t. grown_inside at t
       ] refl
@@ -164,7 +173,8 @@ module _ (node next made : ViewNode) (nodes : List ViewNode) (e : entries_in mad
   }
 
 -- what holds of nodes that begin as these do holds of those before a cut
-firsts : (P : List ViewNode → Type 0) (at : ℕ) (node : ViewNode) (nodes : List ViewNode) → P [] → ((rest : List ViewNode) → P (node ∷ rest)) → P (cut_node at node).0 → P (cut at (node ∷ nodes)).0
+firsts : (P : List ViewNode → Type 0) (at : ℕ) (node : ViewNode) (nodes : List ViewNode) → P [] → ((rest : List ViewNode) → P (node ∷ rest))
+    → P (cut_node at node).0 → P (cut at (node ∷ nodes)).0
 firsts P at node nodes p q r =
     elim (nat_le (entries_in node) at) as (λ b. P (cut_before b (nat_eq at 0) node nodes (cut_node at node) (cut (at - entries_in node) nodes)).0) [
       | true ↦ q (cut (at - entries_in node) nodes).0
@@ -172,7 +182,8 @@ firsts P at node nodes p q r =
     ]
 
 -- an element that is cut is an element of the same kind
-first_part : (P : List ViewNode → Type 0) (at : ℕ) (head : Head) (children : ViewNodes) → ((kids : ViewNodes) → P (element head kids ∷ [])) → P (cut_node at (element head children)).0
+first_part : (P : List ViewNode → Type 0) (at : ℕ) (head : Head) (children : ViewNodes) → ((kids : ViewNodes) → P (element head kids ∷ []))
+    → P (cut_node at (element head children)).0
 first_part P at head children h =
     elim (layer_of head) as (λ own. P (cut_element own head children (cut_inner at children)).0) [ None ↦ h _ | Some layer ↦ h _ ]
 
@@ -201,20 +212,24 @@ bare-adds : (head : Head) (children : ViewNodes) → layer_of head ≡ None → 
 bare-adds head children e = record {
   one = bare-entries head children e;
   full = bare-full head children e;
-  to = λ nodes h. apart (element head children) nodes (bare-entries head children e) (bare-full head children e) h (node-stays head children nodes e) (λ at. node-stays head children (cut at nodes).0 e);
+  to = λ nodes h. apart (element head children) nodes (bare-entries head children e) (bare-full head children e) h (node-stays head children nodes e)
+      (λ at. node-stays head children (cut at nodes).0 e);
 }
 
-layer-grown : (layer : Layer) (node : ViewNode) (inner nodes : List ViewNode) → Adds node → 0 < entries_of inner → AreFullNodes inner → AreFullNodes nodes → AddsTo (in_layer layer (node ∷ [])) (in_layer layer inner ∷ nodes)
+layer-grown : (layer : Layer) (node : ViewNode) (inner nodes : List ViewNode) → Adds node → 0 < entries_of inner → AreFullNodes inner
+    → AreFullNodes nodes → AddsTo (in_layer layer (node ∷ [])) (in_layer layer inner ∷ nodes)
 layer-grown layer node inner nodes a c f h =
     grown (in_layer layer (node ∷ [])) (in_layer layer inner) (in_layer layer (join_node node inner)) nodes
     (layer-entries layer (join_node node inner) ∙ (a.to inner f).count ∙ ap suc (sym (layer-entries layer inner)))
     (λ rest. join-in_layer layer layer (node ∷ []) inner rest (same_layer-itself layer))
     (layer-cut 1 layer (join_node node inner)
-    ∙ ap (λ (parts : Parts). (in_layer layer parts.0 ∷ [], in_layer layer parts.1 ∷ [])) ((a.to inner f).cuts 0 ∙ ap (λ (parts : Parts). (join_node node parts.0, parts.1)) (cut-none inner f) ∙ ap (λ front. (front, inner)) (join_node-none node)))
+    ∙ ap (λ (parts : Parts). (in_layer layer parts.0 ∷ [], in_layer layer parts.1 ∷ [])) ((a.to inner f).cuts 0
+    ∙ ap (λ (parts : Parts). (join_node node parts.0, parts.1)) (cut-none inner f) ∙ ap (λ front. (front, inner)) (join_node-none node)))
     (λ at.
     layer-cut (suc (suc at)) layer (join_node node inner)
     ∙ ap (λ (parts : Parts). (in_layer layer parts.0 ∷ [], in_layer layer parts.1 ∷ [])) ((a.to inner f).cuts (suc at))
-    ∙ ap (λ front. (front, in_layer layer (cut (suc at) inner).1 ∷ [])) (sym (join-in_layer layer layer (node ∷ []) (cut (suc at) inner).0 [] (same_layer-itself layer)))
+    ∙ ap (λ front. (front, in_layer layer (cut (suc at) inner).1 ∷ []))
+    (sym (join-in_layer layer layer (node ∷ []) (cut (suc at) inner).0 [] (same_layer-itself layer)))
     ∙ ap (λ (parts : Parts). (join_node (in_layer layer (node ∷ [])) parts.0, parts.1)) (sym (layer-cut (suc at) layer inner)))
     (layer-full layer (join_node node inner) (subst (λ n. 0 < n) (sym (a.to inner f).count) (omega arith)) (a.to inner f).full)
     h
@@ -230,9 +245,11 @@ module _ (layer : Layer) (node : ViewNode) (a : Adds node) where
   layer-is_full : IsFull (in_layer layer (node ∷ []))
   layer-is_full = layer-full layer (node ∷ []) (omega (arith, a.one)) (a.full, tt)
 
-  layer-joined : (other : Head) (inner : ViewNodes) (nodes : List ViewNode) → layer_of other ≡ Some layer → IsFull (element other inner) → AreFullNodes nodes → AddsTo (in_layer layer (node ∷ [])) (element other inner ∷ nodes)
+  layer-joined : (other : Head) (inner : ViewNodes) (nodes : List ViewNode) → layer_of other ≡ Some layer → IsFull (element other inner)
+      → AreFullNodes nodes → AddsTo (in_layer layer (node ∷ [])) (element other inner ∷ nodes)
   layer-joined other inner nodes own f h =
-      let k : (other ≡ layer_head layer) × (0 < entries_inner inner) × AreFull inner = subst (λ o. IsFullElement o other (entries_inner inner) (AreFull inner)) own f in
+      let k : (other ≡ layer_head layer) × (0 < entries_inner inner)
+      × AreFull inner = subst (λ o. IsFullElement o other (entries_inner inner) (AreFull inner)) own f in
       subst (λ next. AddsTo (in_layer layer (node ∷ [])) (next ∷ nodes)) (λ i. element (sym k.0 i) (nodes_of-list_of inner i))
       (layer-grown layer node (list_of inner) nodes a (subst (λ n. 0 < n) (entries_inner-is inner) k.1) (full-list inner k.2) h)
 
@@ -240,14 +257,18 @@ module _ (layer : Layer) (node : ViewNode) (a : Adds node) where
   layer-to [] h = apart (in_layer layer (node ∷ [])) [] layer-one layer-is_full h refl (λ at. refl)
   layer-to (text scalars ∷ nodes) h =
       apart (in_layer layer (node ∷ [])) (text scalars ∷ nodes) layer-one layer-is_full h refl
-      (λ at. firsts (λ front. join_node (in_layer layer (node ∷ [])) front ≡ in_layer layer (node ∷ []) ∷ front) at (text scalars) nodes refl (λ rest. refl) refl)
+      (λ at. firsts (λ front. join_node (in_layer layer (node ∷ [])) front ≡ in_layer layer (node ∷ []) ∷ front) at (text scalars) nodes refl
+      (λ rest. refl) refl)
   layer-to (element other inner ∷ nodes) h =
       elim (joins (layer_head layer) other) as (λ b. joins (layer_head layer) other ≡ b → AddsTo (in_layer layer (node ∷ [])) (element other inner ∷ nodes)) [
         | true ↦ λ j. layer-joined other inner nodes (other_layer layer (layer_of other) j) h.0 h.1
         | false ↦ λ j.
-            apart (in_layer layer (node ∷ [])) (element other inner ∷ nodes) layer-one layer-is_full h (join_node-apart (layer_head layer) other _ inner nodes j)
-            (λ at. firsts (λ front. join_node (in_layer layer (node ∷ [])) front ≡ in_layer layer (node ∷ []) ∷ front) at (element other inner) nodes refl (λ rest. join_node-apart (layer_head layer) other _ inner rest j)
-            (first_part (λ front. join_node (in_layer layer (node ∷ [])) front ≡ in_layer layer (node ∷ []) ∷ front) at other inner (λ kids. join_node-apart (layer_head layer) other _ kids [] j)))
+            apart (in_layer layer (node ∷ [])) (element other inner ∷ nodes) layer-one layer-is_full h
+            (join_node-apart (layer_head layer) other _ inner nodes j)
+            (λ at. firsts (λ front. join_node (in_layer layer (node ∷ [])) front ≡ in_layer layer (node ∷ []) ∷ front) at (element other inner) nodes
+            refl (λ rest. join_node-apart (layer_head layer) other _ inner rest j)
+            (first_part (λ front. join_node (in_layer layer (node ∷ [])) front ≡ in_layer layer (node ∷ []) ∷ front) at other inner
+            (λ kids. join_node-apart (layer_head layer) other _ kids [] j)))
       ] refl
 
   layer-adds : Adds (in_layer layer (node ∷ []))
@@ -279,7 +300,8 @@ put-single (layer ∷ layers) content p =
     let inner = put-single layers content p in
     record { node = in_layer layer (inner.node ∷ []); is = ap (λ nodes. in_layer layer nodes ∷ []) inner.is; adds = layer-adds layer inner.node inner.adds }
 
-nest-single : (entry : Entry) (row : List Entry) (h : IsPlainRow (entry ∷ row)) → nest (entry ∷ row) ≡ join_node (put-single entry.layers entry.content h.0).node (nest row)
+nest-single : (entry : Entry) (row : List Entry) (h : IsPlainRow (entry ∷ row)) → nest (entry ∷ row)
+    ≡ join_node (put-single entry.layers entry.content h.0).node (nest row)
 nest-single entry row h =
     nest-cons entry row h ∙ ap (λ front. join front (nest row)) (put-single entry.layers entry.content h.0).is
 

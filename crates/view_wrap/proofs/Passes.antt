@@ -8,11 +8,13 @@ use Rattle.view_definitions.proofs.Joins.{join-none, join-assoc}
 use Rattle.view_definitions.specs.Layer.{Layer}
 use Rattle.view_wrap.specs.Layered.{wrapped_node, wrapped, unwrapped_node, unwrapped}
 
-module _ (each : ViewNode → List ViewNode) (all : List ViewNode → List ViewNode) (nothing : all [] ≡ []) (more : (node : ViewNode) (nodes : List ViewNode) → all (node ∷ nodes) ≡ join (each node) (all nodes)) where
+module _ (each : ViewNode → List ViewNode) (all : List ViewNode → List ViewNode) (nothing : all [] ≡ [])
+    (more : (node : ViewNode) (nodes : List ViewNode) → all (node ∷ nodes) ≡ join (each node) (all nodes)) where
   begun : (made reversed nodes : List ViewNode) → made ≡ [] → reversed ≡ reverse nodes → join made (all (reverse reversed)) ≡ all nodes
   begun made reversed nodes m r = λ i. join (m i) (all ((ap reverse r ∙ reverse-reverse nodes) i))
 
-  gone_on : (made old rest new whole : List ViewNode) (node : ViewNode) → join made (all (reverse old)) ≡ whole → old ≡ rest ++ node ∷ [] → new ≡ join made (each node) → join new (all (reverse rest)) ≡ whole
+  gone_on : (made old rest new whole : List ViewNode) (node : ViewNode) → join made (all (reverse old)) ≡ whole → old ≡ rest ++ node ∷ []
+      → new ≡ join made (each node) → join new (all (reverse rest)) ≡ whole
   gone_on made old rest new whole node h o n =
       ap (λ list. join list (all (reverse rest))) n ∙ sym (join-assoc made (each node) (all (reverse rest)))
       ∙ ap (join made) (sym (more node (reverse rest))) ∙ ap (λ list. join made (all list)) (sym (ap reverse o ∙ reverse-append rest (node ∷ []))) ∙ h
@@ -21,19 +23,23 @@ module _ (each : ViewNode → List ViewNode) (all : List ViewNode → List ViewN
   ended made old whole h o = sym (join-none made) ∙ ap (join made) (sym (ap (λ list. all (reverse list)) o ∙ nothing)) ∙ h
 
 module _ (layer : Layer) where
-  pub wraps_begun : (made reversed nodes : List ViewNode) → made ≡ [] → reversed ≡ reverse nodes → join made (wrapped layer (reverse reversed)) ≡ wrapped layer nodes
+  pub wraps_begun : (made reversed nodes : List ViewNode) → made ≡ [] → reversed ≡ reverse nodes → join made (wrapped layer (reverse reversed))
+      ≡ wrapped layer nodes
   wraps_begun = begun (λ node. wrapped_node layer node ∷ []) (wrapped layer) refl (λ _ _. refl)
 
-  pub wraps_gone_on : (made old rest new whole : List ViewNode) (node : ViewNode) → join made (wrapped layer (reverse old)) ≡ whole → old ≡ rest ++ node ∷ [] → new ≡ join made (wrapped_node layer node ∷ []) → join new (wrapped layer (reverse rest)) ≡ whole
+  pub wraps_gone_on : (made old rest new whole : List ViewNode) (node : ViewNode) → join made (wrapped layer (reverse old)) ≡ whole
+      → old ≡ rest ++ node ∷ [] → new ≡ join made (wrapped_node layer node ∷ []) → join new (wrapped layer (reverse rest)) ≡ whole
   wraps_gone_on = gone_on (λ node. wrapped_node layer node ∷ []) (wrapped layer) refl (λ _ _. refl)
 
   pub wraps_ended : (made old whole : List ViewNode) → join made (wrapped layer (reverse old)) ≡ whole → old ≡ [] → made ≡ whole
   wraps_ended = ended (λ node. wrapped_node layer node ∷ []) (wrapped layer) refl (λ _ _. refl)
 
-  pub unwraps_begun : (made reversed nodes : List ViewNode) → made ≡ [] → reversed ≡ reverse nodes → join made (unwrapped layer (reverse reversed)) ≡ unwrapped layer nodes
+  pub unwraps_begun : (made reversed nodes : List ViewNode) → made ≡ [] → reversed ≡ reverse nodes → join made (unwrapped layer (reverse reversed))
+      ≡ unwrapped layer nodes
   unwraps_begun = begun (unwrapped_node layer) (unwrapped layer) refl (λ _ _. refl)
 
-  pub unwraps_gone_on : (made old rest new whole : List ViewNode) (node : ViewNode) → join made (unwrapped layer (reverse old)) ≡ whole → old ≡ rest ++ node ∷ [] → new ≡ join made (unwrapped_node layer node) → join new (unwrapped layer (reverse rest)) ≡ whole
+  pub unwraps_gone_on : (made old rest new whole : List ViewNode) (node : ViewNode) → join made (unwrapped layer (reverse old)) ≡ whole
+      → old ≡ rest ++ node ∷ [] → new ≡ join made (unwrapped_node layer node) → join new (unwrapped layer (reverse rest)) ≡ whole
   unwraps_gone_on = gone_on (unwrapped_node layer) (unwrapped layer) refl (λ _ _. refl)
 
   pub unwraps_ended : (made old whole : List ViewNode) → join made (unwrapped layer (reverse old)) ≡ whole → old ≡ [] → made ≡ whole

@@ -1,5 +1,6 @@
 -- Nodes cut in two before an entry of the row that they are nested from.
-use Rattle.std.specs.Prelude.{ℕ, suc, Bool, true, false, ◌-◌, List, [], ◌∷◌, ◌++◌, length, take, drop, nat_le, nat_eq, is_some, if◌then◌else◌, Option, Some, None, ◌+◌}
+use Rattle.std.specs.Prelude.{ℕ, suc, Bool, true, false, ◌-◌, List, [], ◌∷◌, ◌++◌, length, take, drop, nat_le, nat_eq, is_some, if◌then◌else◌, Option, Some}
+use Rattle.std.specs.Prelude.{None, ◌+◌}
 use Rattle.view_definitions.specs.Node.{Head, ViewNode, ViewNodes, text, element, none, more, list_of, nodes_of}
 use Rattle.view_definitions.specs.Layer.{Layer, layer_of, in_layer}
 

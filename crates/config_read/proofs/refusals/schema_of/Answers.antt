@@ -23,13 +23,16 @@ returns-in-Ok-clause-refused c =
     let items = c.in_ok-items.items.items in
     let known : items ≡ items_of (form_view form) = c.in_ok-items.ensures ∙ ap (λ entries. registrations (predefined ++ entries)) c.as_slice.ensures.value in
     let is_first = c.unknown_start-start.ensures ∙ ap (λ names. unknown_start names form.start) c.deref.ensures.value in
-    let is_second = c.first_unknown_item-converter.ensures ∙ ap (λ names. first_unknown_item names c.deref-3.result.now) c.deref-2.ensures.value ∙ ap (first_unknown_item items) c.deref-3.ensures.value in
+    let is_second = c.first_unknown_item-converter.ensures ∙ ap (λ names. first_unknown_item names c.deref-3.result.now) c.deref-2.ensures.value
+    ∙ ap (first_unknown_item items) c.deref-3.ensures.value in
     let first = option_copied c.unknown_start-start.result in
     let second = option_copied c.first_unknown_item-converter.result in
     subst (Refuses c.accepted.result)
     (ap (λ name. option_or (option_map UnknownItem name) (converters_refusal c.args.handed_in.now c.in-Ok.schema c.deref-in-Ok.result.now)) c.first_of.ensures
-    ∙ ap (λ plans. option_or (option_map UnknownItem (option_or first second)) (converters_refusal c.args.handed_in.now c.in-Ok.schema plans)) c.deref-in-Ok.ensures.value
-    ∙ sym (schema_decides c.args.handed_in.now form.schema form.version form.rounds form.start form.converters.items c.in-Ok.schema items first second c.in-Ok.ensures.ok known is_first is_second))
+    ∙ ap (λ plans. option_or (option_map UnknownItem (option_or first second)) (converters_refusal c.args.handed_in.now c.in-Ok.schema plans))
+    c.deref-in-Ok.ensures.value
+    ∙ sym (schema_decides c.args.handed_in.now form.schema form.version form.rounds form.start form.converters.items c.in-Ok.schema items first second
+    c.in-Ok.ensures.ok known is_first is_second))
     c.accepted.ensures.refused
 
 pub returns-clause-refused : goal.returns-clause-refused
@@ -38,6 +41,8 @@ returns-clause-refused c =
     let items = c.in_ok-items.items.items in
     let known : items ≡ items_of (form_view form) = c.in_ok-items.ensures ∙ ap (λ entries. registrations (predefined ++ entries)) c.as_slice.ensures.value in
     let is_first = c.unknown_start-start.ensures ∙ ap (λ names. unknown_start names form.start) c.deref.ensures.value in
-    let is_second = c.first_unknown_item-converter.ensures ∙ ap (λ names. first_unknown_item names c.deref-3.result.now) c.deref-2.ensures.value ∙ ap (first_unknown_item items) c.deref-3.ensures.value in
+    let is_second = c.first_unknown_item-converter.ensures ∙ ap (λ names. first_unknown_item names c.deref-3.result.now) c.deref-2.ensures.value
+    ∙ ap (first_unknown_item items) c.deref-3.ensures.value in
     schema_refused c.args.handed_in.now form.schema form.version form.rounds form.start form.converters.items c.in-Err.fault c.ordered.result items
-    (option_copied c.unknown_start-start.result) (option_copied c.first_unknown_item-converter.result) c.in-Err.ensures.refused known is_first is_second c.ordered.ensures
+    (option_copied c.unknown_start-start.result) (option_copied c.first_unknown_item-converter.result) c.in-Err.ensures.refused known is_first is_second
+    c.ordered.ensures

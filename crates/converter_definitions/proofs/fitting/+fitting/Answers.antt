@@ -14,5 +14,12 @@ fit_in-fits-requires g t c κs within =
     (omega (arith, c.decreases, ap (λ nodes. inner_count (forms_of (shapes_of nodes))) c.in-Some.ensures.cases.0), within)
 
 pub fit_in-fit_in-requires : goal.fit_in-fit_in-requires
-fit_in-fit_in-requires g t c κs within =
-    (omega (arith, c.decreases, ap (λ nodes. inner_count (forms_of (shapes_of nodes))) c.in-Some.ensures.cases.0, one_node (shape_of c.in-Some.node.now)), within)
+fit_in-fit_in-requires g t c κs within = (
+  omega (
+    arith,
+    c.decreases,
+    ap (λ nodes. inner_count (forms_of (shapes_of nodes))) c.in-Some.ensures.cases.0,
+    one_node (shape_of c.in-Some.node.now),
+  ),
+  within,
+)

@@ -7,4 +7,5 @@ use Rattle.converter_read.proofs.patterns.patterns_of.Given as goal
 -- the patterns so far, and those of what is left
 abbrev pub invariant-loop-key : goal.invariant-loop-key
 invariant-loop-key l =
-    with_front l.patterns (patterns_from l.fn.indexes l.fn.path (members_view l.key-iterator)) ≡ patterns_from l.fn.indexes l.fn.path (members_view l.fn.members.entries)
+    with_front l.patterns (patterns_from l.fn.indexes l.fn.path (members_view l.key-iterator))
+    ≡ patterns_from l.fn.indexes l.fn.path (members_view l.fn.members.entries)

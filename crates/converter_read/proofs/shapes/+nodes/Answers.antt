@@ -11,13 +11,18 @@ nodes_at-loop-index-preserved t c =
     let made = ap shapes_of c.in_ok-push.ensures.items ∙ shapes_more c.loop-index.nodes.items c.in_ok-node_at.field-0 in
     record {
       reads =
-          ap (λ forms. with_front forms (nodes_at (node_at c.args.indexes c.args.spot.levels) c.args.spot.parent c.node_at.new.before c.args.path.now (c.loop-index.index + 1) (items_view (drop (c.loop-index.index + 1) c.args.items.now.items)))) made
+          ap (λ forms. with_front forms (nodes_at (node_at c.args.indexes c.args.spot.levels) c.args.spot.parent c.node_at.new.before c.args.path.now
+          (c.loop-index.index + 1) (items_view (drop (c.loop-index.index + 1) c.args.items.now.items)))) made
           ∙ one_more (node_at c.args.indexes c.args.spot.levels) c.args.spot.parent c.loop-index.before c.node_at.new.before c.args.path.now c.loop-index.index
-          (view c.item-item.result) (items_view (drop (c.loop-index.index + 1) c.args.items.now.items)) (shapes_of c.loop-index.nodes.items) (shape_of c.in_ok-node_at.field-0)
-          (ap (λ place. node_at c.args.indexes c.args.spot.levels c.args.spot.parent c.loop-index.before place (view c.item-item.result)) (sym c.in_ok-place.ensures) ∙ c.in_ok-node_at.ensures.reads)
+          (view c.item-item.result) (items_view (drop (c.loop-index.index + 1) c.args.items.now.items)) (shapes_of c.loop-index.nodes.items)
+          (shape_of c.in_ok-node_at.field-0)
+          (ap (λ place. node_at c.args.indexes c.args.spot.levels c.args.spot.parent c.loop-index.before place (view c.item-item.result))
+          (sym c.in_ok-place.ensures) ∙ c.in_ok-node_at.ensures.reads)
           c.in_ok-node_at.ensures.counted
-          ∙ ap (λ rows. with_front (shapes_of c.loop-index.nodes.items) (nodes_at (node_at c.args.indexes c.args.spot.levels) c.args.spot.parent c.loop-index.before c.args.path.now c.loop-index.index (items_view rows)))
-          (left_from c.deref-item-items.result.now c.args.items.now.items c.loop-index.index c.item-item.result c.deref-item-items.ensures.value (omega arith) c.item-item.is)
+          ∙ ap (λ rows. with_front (shapes_of c.loop-index.nodes.items)
+          (nodes_at (node_at c.args.indexes c.args.spot.levels) c.args.spot.parent c.loop-index.before c.args.path.now c.loop-index.index (items_view rows)))
+          (left_from c.deref-item-items.result.now c.args.items.now.items c.loop-index.index c.item-item.result c.deref-item-items.ensures.value
+          (omega arith) c.item-item.is)
           ∙ c.loop-index.invariant.reads;
       counted =
           c.in_ok-node_at.ensures.counted

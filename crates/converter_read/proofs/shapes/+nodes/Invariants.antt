@@ -26,7 +26,8 @@ decreases-children_at l = 6 * l.spot.levels + 5
 -- the nodes so far and those of what is left, and what comes before these
 abbrev pub invariant-nodes_at-loop-index : goal.invariant-nodes_at-loop-index
 invariant-nodes_at-loop-index l = record {
-  reads : with_front (shapes_of l.nodes.items) (nodes_at (node_at l.indexes l.spot.levels) l.spot.parent l.before l.path l.index (items_view (drop l.index l.items.items)))
+  reads : with_front (shapes_of l.nodes.items) (nodes_at (node_at l.indexes l.spot.levels) l.spot.parent l.before l.path l.index
+      (items_view (drop l.index l.items.items)))
       ≡ nodes_at (node_at l.indexes l.spot.levels) l.spot.parent l.initial.before l.path 0 (items_view l.items.items);
   counted : l.before ≡ behind_all (shapes_of l.nodes.items) l.initial.before;
 }

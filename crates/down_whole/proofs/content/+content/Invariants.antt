@@ -18,6 +18,7 @@ invariant-loop-node g l =
     let conversion = conversion_of (λ b. (contract.dyn-1.members g.row.L g.dyn-1 (b.vtable, b.value)).gives b.value) l.list in
     let items = items_in (take l.node-index l.node-items) in
     record {
-      way : Partway conversion (scene_with conversion l.scene) l.parent.name.now l.parent.path.now l.initial.maker.view.drawn items l.initial.maker.mapper (written l.row) l.maker.mapper l.offset l.before l.maker.view.drawn;
+      way : Partway conversion (scene_with conversion l.scene) l.parent.name.now l.parent.path.now l.initial.maker.view.drawn items
+          l.initial.maker.mapper (written l.row) l.maker.mapper l.offset l.before l.maker.view.drawn;
       calls : l.steps ≤ l.initial.steps + boxed_count conversion.converters * elements_among (items_of items);
     }

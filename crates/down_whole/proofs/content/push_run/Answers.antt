@@ -16,7 +16,14 @@ use Rattle.down_whole.proofs.content.push_run.Goals as goal
 
 pub push_scalar-requires-clause-limit : goal.push_scalar-requires-clause-limit
 push_scalar-requires-clause-limit g c =
-    omega (arith, ap offset_of c.position_at-position.ensures, offset_of-push c.args.path.now c.loop-scalar.offset, c.loop-scalar.invariant.1, c.requires.few, ap length c.scalars-scalar-items.ensures)
+    omega (
+      arith,
+      ap offset_of c.position_at-position.ensures,
+      offset_of-push c.args.path.now c.loop-scalar.offset,
+      c.loop-scalar.invariant.1,
+      c.requires.few,
+      ap length c.scalars-scalar-items.ensures,
+    )
 
 pub loop-scalar-preserved : goal.loop-scalar-preserved
 loop-scalar-preserved g c =
@@ -29,13 +36,19 @@ loop-scalar-preserved g c =
     let behind : c.loop-scalar.offset ≡ c.args.offset + length (take index items) = omega (arith, c.loop-scalar.invariant.1, length-take index items, less) in (
       λ numbers.
           let scene = scene_with conversion c.args.scene.now numbers in
-          run_step scene c.args.path.now c.args.offset c.loop-scalar.offset c.args.text.now.attributes (take index items) (take (index + 1) items) scalar (written c.args.row.now) (written c.loop-scalar.row) (written c.push_boundary.new.row) (written c.push_scalar.new.row)
+          run_step scene c.args.path.now c.args.offset c.loop-scalar.offset c.args.text.now.attributes (take index items) (take (index + 1) items)
+          scalar (written c.args.row.now) (written c.loop-scalar.row) (written c.push_boundary.new.row) (written c.push_scalar.new.row)
           (c.loop-scalar.invariant.0 numbers) behind
-          (c.in_ok-push_boundary.ensures.written conversion numbers c.requires.leaves ∙ ap (λ p. with_row (boundary scene p) (written c.loop-scalar.row)) c.position_at-position.ensures)
-          (c.in_ok-known.ensures.written ∙ (λ i. with_entry (character_in (character_layers conversion (c.attrs.ensures i) (covering (c.position_at-position.ensures i) c.args.scene.now.markers.now)) scalar) (written c.push_boundary.new.row)))
+          (c.in_ok-push_boundary.ensures.written conversion numbers c.requires.leaves
+          ∙ ap (λ p. with_row (boundary scene p) (written c.loop-scalar.row)) c.position_at-position.ensures)
+          (c.in_ok-known.ensures.written
+          ∙ (λ i. with_entry (character_in
+          (character_layers conversion (c.attrs.ensures i) (covering (c.position_at-position.ensures i) c.args.scene.now.markers.now)) scalar)
+          (written c.push_boundary.new.row)))
           next,
       omega (arith, c.loop-scalar.invariant.1),
-      subst (λ attributes. HasLayers conversion attributes (option_map (λ names. names.items) c.in_ok-known.known) c.push_scalar.new.row.layers.items) c.attrs.ensures c.in_ok-known.ensures.layers,
+      subst (λ attributes. HasLayers conversion attributes (option_map (λ names. names.items) c.in_ok-known.known) c.push_scalar.new.row.layers.items)
+          c.attrs.ensures c.in_ok-known.ensures.layers,
     )
 
 pub returns : goal.returns
@@ -44,5 +57,6 @@ returns g c = λ numbers.
     let index = c.loop-scalar.scalar-index in
     let least : length items ≤ index = omega arith in
     c.loop-scalar.invariant.0 numbers
-    ∙ ap (λ scalars. with_row (run_row (scene_with (conversion_of (λ b. (goal.Converter-dyn g (b.vtable, b.value)).gives b.value) c.args.list.now) c.args.scene.now numbers) c.args.path.now c.args.offset c.args.text.now.attributes scalars) (written c.args.row.now))
+    ∙ ap (λ scalars. with_row (run_row (scene_with (conversion_of (λ b. (goal.Converter-dyn g (b.vtable, b.value)).gives b.value) c.args.list.now)
+    c.args.scene.now numbers) c.args.path.now c.args.offset c.args.text.now.attributes scalars) (written c.args.row.now))
     (take_all index items least ∙ c.scalars-scalar-items.ensures)

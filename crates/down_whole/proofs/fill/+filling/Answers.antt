@@ -17,6 +17,8 @@ pub fill_nodes-returns-in_ok-fill_nodes-in-Some-clause-nodes :
     goal.fill_nodes-returns-in_ok-fill_nodes-in-Some-clause-nodes
 fill_nodes-returns-in_ok-fill_nodes-in-Some-clause-nodes t c =
     let whole = ap (λ nodes. forms_of (shapes_of nodes)) c.in-Some.ensures.cases.0 in
-    both_filled c.args.out.now.nodes c.fill_node.new.out.nodes c.fill_nodes.new.out.nodes c.args.content.now.nodes c.fill_node.new.content.nodes (shape_of c.in-Some.node.now) (forms_of (shapes_of c.in-Some.rest.now))
-    (omega (arith, c.requires, ap inner_slots whole)) c.in_ok-fill_node-in-Some.ensures.nodes c.in_ok-fill_node-in-Some.ensures.left c.in_ok-fill_nodes-in-Some.ensures.nodes
+    both_filled c.args.out.now.nodes c.fill_node.new.out.nodes c.fill_nodes.new.out.nodes c.args.content.now.nodes c.fill_node.new.content.nodes
+    (shape_of c.in-Some.node.now) (forms_of (shapes_of c.in-Some.rest.now))
+    (omega (arith, c.requires, ap inner_slots whole)) c.in_ok-fill_node-in-Some.ensures.nodes c.in_ok-fill_node-in-Some.ensures.left
+    c.in_ok-fill_nodes-in-Some.ensures.nodes
     ∙ sym (ap (λ forms. c.args.out.now.nodes ++ filled_inner c.args.content.now.nodes forms) whole)

@@ -16,4 +16,5 @@ returns-clause-made g c = λ numbers.
       caret = (ap (option_map (λ here. caret_view here.now)) c.in_ok-scene.ensures.caret ∙ c.requires) i;
       numbers = numbers;
     })
-    c.in_ok-root.ensures c.new-path.ensures (ap (λ view. view.drawn) c.new-2.ensures) (c.items-items.ensures.items ∙ c.tree.ensures.items) c.with_nodes.ensures.nodes c.new-3.ensures (c.in_ok-nodes.ensures.made numbers)
+    c.in_ok-root.ensures c.new-path.ensures (ap (λ view. view.drawn) c.new-2.ensures) (c.items-items.ensures.items ∙ c.tree.ensures.items)
+    c.with_nodes.ensures.nodes c.new-3.ensures (c.in_ok-nodes.ensures.made numbers)

@@ -6,6 +6,7 @@ use Rattle.editor_core.proofs.changing.perform_all.Given as goal
 -- all edits make of the document from before what the edits to come make of the present one
 abbrev pub invariant-loop-index : goal.invariant-loop-index
 invariant-loop-index l = record {
-  going : all_performed (is_registered l.schema) (l.index + 1) (drop l.index l.edits) l.document.state ≡ all_performed (is_registered l.schema) 1 l.edits l.initial.document.state;
+  going : all_performed (is_registered l.schema) (l.index + 1) (drop l.index l.edits) l.document.state
+      ≡ all_performed (is_registered l.schema) 1 l.edits l.initial.document.state;
   kept : l.document.kept ≡ l.initial.document.kept;
 }

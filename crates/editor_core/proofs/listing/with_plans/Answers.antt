@@ -20,7 +20,8 @@ loop-plan-preserved g c =
           (givings_of (λ b. (goal.Converter-dyn g (b.vtable, b.value)).gives b.value) c.loop-plan.converters.items)
           c.in-Some.plan c.next.new.self.rest.items c.loop-plan.plan-iterator.rest.items split c.loop-plan.invariant.way
           (listed_of (λ b. (goal.Converter-dyn g (b.vtable, b.value)).gives b.value) c.loop-plan.list)
-          (listed_of (λ b. (goal.Converter-dyn g (b.vtable, b.value)).gives b.value) c.add_plan.new.list) _ c.loop-plan.invariant.added c.in_ok-add_plan.ensures.ok;
+          (listed_of (λ b. (goal.Converter-dyn g (b.vtable, b.value)).gives b.value) c.add_plan.new.list) _ c.loop-plan.invariant.added
+          c.in_ok-add_plan.ensures.ok;
       rest = c.in_ok-add_plan.ensures.rest ∙ c.loop-plan.invariant.rest;
       way =
           next-way (givings_of (λ b. (goal.Converter-dyn g (b.vtable, b.value)).gives b.value) c.args.converters.items)

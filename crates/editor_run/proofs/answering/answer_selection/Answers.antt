@@ -16,5 +16,6 @@ returns-in-Err-clause-answered g c =
     let old = machine_of (λ b. (goal.Converter-dyn g (b.vtable, b.value)).gives b.value) c.args.editor.now in
     refused old (machine_of (λ b. (goal.Converter-dyn g (b.vtable, b.value)).gives b.value) c.select_view.new.self) c.args.number
     (select_view (c.args.anchor.now.path ++ c.args.anchor.now.offset ∷ []) (c.args.focus.now.path ++ c.args.focus.now.offset ∷ []) old)
-    c.refused_line.result c.in-Err.refusal c.in-Err.ensures.moves (ap (machine_of (λ b. (goal.Converter-dyn g (b.vtable, b.value)).gives b.value)) c.in-Err.ensures.stays)
+    c.refused_line.result c.in-Err.refusal c.in-Err.ensures.moves (ap (machine_of (λ b. (goal.Converter-dyn g (b.vtable, b.value)).gives b.value))
+    c.in-Err.ensures.stays)
     c.refused_line.ensures.text c.refused_line.ensures.printed

@@ -8,6 +8,7 @@ use Rattle.editor_run.proofs.opening.editor_of.Goals as goal
 pub returns-in-Err-BadStart-clause-opens : goal.returns-in-Err-BadStart-clause-opens
 returns-in-Err-BadStart-clause-opens g c =
     let settings = c.args.settings in
-    let config = config_of (givings_of (λ b. (goal.Converter-dyn g (b.vtable, b.value)).gives b.value) c.args.extensions.converters.items) (settings_view settings) in
+    let config = config_of (givings_of (λ b. (goal.Converter-dyn g (b.vtable, b.value)).gives b.value) c.args.extensions.converters.items)
+    (settings_view settings) in
     let made = opened (record { rules = settings.schema }) settings.start in
     c.start_end.ensures.ends (begun config made) (refused_document config made _ (rw c.in-Err-BadStart.field-0-is at c.in-Err-BadStart.ensures).0)

@@ -9,4 +9,5 @@ pub returns : goal.returns
 returns g c =
     let conversion = conversion_in (λ b. (goal.Converter-dyn g (b.vtable, b.value)).gives b.value) c.args.editor.now in
     let shown = downcast conversion (document_in c.args.editor.now) in
-    subst (λ printed. IfOk c.view_text.result (λ text. string_bytes text ≡ printed)) (printed_content None c.view.result.now.nodes shown c.view.ensures.content) c.view_text.ensures
+    subst (λ printed. IfOk c.view_text.result (λ text. string_bytes text ≡ printed))
+    (printed_content None c.view.result.now.nodes shown c.view.ensures.content) c.view_text.ensures

@@ -18,10 +18,12 @@ returns-in-Err-NotWritten-clause-tells g c =
     let line = c.split_line.result.0.now in
     record {
       whole = λ memory other. absurd (other refl);
-      part = sends_part_of_answer (written c.args.out.now) (written l.out) (written c.answer_line.new.out) (answers begin 1 (lines_of c.args.script.now)) machine l.number l.rest.now
+      part = sends_part_of_answer (written c.args.out.now) (written l.out) (written c.answer_line.new.out)
+          (answers begin 1 (lines_of c.args.script.now)) machine l.number l.rest.now
           line c.split_line.result.1.now (answer machine l.number line).text (sent_of c.in-Err-NotWritten.field-0-0)
           c.split_line.ensures.lines l.invariant.sends refl (rw c.in-Err-NotWritten.field-0-is at c.in-Err-NotWritten.ensures.part);
-      failed = λ e. subst (λ before. Rose before (g.S.Sink.faults c.answer_line.new.out)) l.invariant.calm (rw c.in-Err-NotWritten.field-0-is at c.in-Err-NotWritten.ensures.failed);
+      failed = λ e. subst (λ before. Rose before (g.S.Sink.faults c.answer_line.new.out)) l.invariant.calm
+          (rw c.in-Err-NotWritten.field-0-is at c.in-Err-NotWritten.ensures.failed);
     }
 
 pub returns-in-Err-NoMemory-clause-tells : goal.returns-in-Err-NoMemory-clause-tells
@@ -32,7 +34,8 @@ returns-in-Err-NoMemory-clause-tells g c =
     record {
       whole = λ memory other. absurd (memory refl);
       part = subst (λ new. SendsFront (written c.args.out.now) new all) (sym (rw c.in-Err-NoMemory.field-0-is at c.in-Err-NoMemory.ensures.part))
-          (sends_so_far (written c.args.out.now) (written l.out) all (answers (machine_of (λ b. (goal.Converter-dyn g (b.vtable, b.value)).gives b.value) l.editor) l.number (lines_of l.rest.now)) l.invariant.sends);
+          (sends_so_far (written c.args.out.now) (written l.out) all
+          (answers (machine_of (λ b. (goal.Converter-dyn g (b.vtable, b.value)).gives b.value) l.editor) l.number (lines_of l.rest.now)) l.invariant.sends);
       failed = λ e. absurd cc;
     }
 
@@ -45,7 +48,8 @@ loop-rest-preserved g c =
     let line = c.split_line.result.0.now in
     let all = answers begin 1 (lines_of c.args.script.now) in
     record {
-      sends = subst (λ machine. SendsUpTo (written c.args.out.now) (written c.answer_line.new.out) all (answers machine (l.number + 1) (lines_of c.split_line.result.1.now)))
+      sends = subst (λ machine. SendsUpTo (written c.args.out.now) (written c.answer_line.new.out) all
+          (answers machine (l.number + 1) (lines_of c.split_line.result.1.now)))
           (sym c.in-Ok.ensures.machine)
           (sends_answer (written c.args.out.now) (written l.out) (written c.answer_line.new.out) all machine l.number l.rest.now line c.split_line.result.1.now
           (answer machine l.number line).text c.split_line.ensures.lines l.invariant.sends refl c.in-Ok.ensures.written);

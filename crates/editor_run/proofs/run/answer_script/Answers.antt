@@ -9,12 +9,14 @@ returns-in-Err-NoMemory-clause-ends g c = ends_out_of_memory _ _ refl
 
 pub returns-in-Err-TooLarge-clause-ends : goal.returns-in-Err-TooLarge-clause-ends
 returns-in-Err-TooLarge-clause-ends g c =
-    ends_too_large _ _ refl (script_large (machine_of (λ b. (goal.Converter-dyn g (b.vtable, b.value)).gives b.value) c.args.editor.now) c.args.script.now (g.F.Files.holds c.args.files.now)
+    ends_too_large _ _ refl (script_large (machine_of (λ b. (goal.Converter-dyn g (b.vtable, b.value)).gives b.value) c.args.editor.now)
+    c.args.script.now (g.F.Files.holds c.args.files.now)
     (all_held (g.F.Files.holds c.args.files.now) _ _ c.fetch.ensures.too_large (λ held so. so (c.in-Err-TooLarge.is ∙ ap Err c.in-Err-TooLarge.field-0-is))))
 
 pub returns-in-Err-Missing-clause-ends : goal.returns-in-Err-Missing-clause-ends
 returns-in-Err-Missing-clause-ends g c =
-    ends_unfetched _ _ refl (script_missing (machine_of (λ b. (goal.Converter-dyn g (b.vtable, b.value)).gives b.value) c.args.editor.now) c.args.script.now (g.F.Files.holds c.args.files.now) _
+    ends_unfetched _ _ refl (script_missing (machine_of (λ b. (goal.Converter-dyn g (b.vtable, b.value)).gives b.value) c.args.editor.now)
+    c.args.script.now (g.F.Files.holds c.args.files.now) _
     (all_held (g.F.Files.holds c.args.files.now) _ _ c.fetch.ensures.missing (λ held so calm. so (c.in-Err-Missing.is ∙ ap Err c.in-Err-Missing.field-0-is))))
     (λ calm. is_told (g.F.Files.holds c.args.files.now) _ c.fetch.ensures.untold (c.in-Err-Missing.is ∙ ap Err c.in-Err-Missing.field-0-is))
 

@@ -28,7 +28,8 @@ returns-in-Ok-clause-ends g c =
     (λ i. calls (c.open_settings.ensures.holds i) (c.in-Ok.ensures.calm i) after old new writes writes_then)
     (sym c.close.ensures)
     (subst (λ told. IfSome told (λ held. done held task machine ≡ task_outcome givings held task)) (sym c.open_settings.ensures.holds)
-    (all_held (holds c.args.files.now) (λ held. machine_from givings (held c.settings.result.now) ≡ Ok machine) (λ held. done held task machine ≡ task_outcome givings held task)
+    (all_held (holds c.args.files.now) (λ held. machine_from givings (held c.settings.result.now) ≡ Ok machine) (λ held. done held task machine
+    ≡ task_outcome givings held task)
     c.in-Ok.ensures.ok
     (λ held opens. sym (ap (λ name. finished held task (machine_from givings (held name))) (sym c.settings.ensures) ∙ ap (finished held task) opens))))
     c.go_on-status.ensures.ends
@@ -41,7 +42,8 @@ returns-in-Err-clause-ends g c =
     let all = calls holds (g.F.Files.faults c.args.files.now) (g.F.Files.faults c.open_settings.new.files)
     (g.S.Sink.written c.args.out.now) (g.S.Sink.written c.end.new.out) (g.S.Sink.faults c.args.out.now) (g.S.Sink.faults c.end.new.out) in
     ends_unopened all (λ held. machine_from givings (held (settings_name task))) task c.in-Err.fault c.end.result
-    (all_held holds _ (λ held. (c.in-Err.fault ≡ ends.NotFetched → IsFetched all) → IsEnd c.in-Err.fault (machine_from givings (held (settings_name task)))) c.in-Err.ensures.err
+    (all_held holds _ (λ held. (c.in-Err.fault ≡ ends.NotFetched → IsFetched all)
+    → IsEnd c.in-Err.fault (machine_from givings (held (settings_name task)))) c.in-Err.ensures.err
     (λ held so calm. subst (λ name. IsEnd c.in-Err.fault (machine_from givings (held name))) c.settings.ensures (so calm)))
     (λ e calm. not_held_told holds c.settings.result.now (c.in-Err.ensures.missing e calm))
     c.end.ensures

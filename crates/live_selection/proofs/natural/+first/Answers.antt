@@ -11,7 +11,8 @@ use Rattle.live_selection.proofs.natural.+first.Goals as goal
 
 pub first_in_items-returns-then-are_before : goal.first_in_items-returns-then-are_before
 first_in_items-returns-then-are_before t c =
-    found_no_more c.args.bounds c.loop-node.index (items_in (drop c.loop-node.node-index c.deref-node-items.result.now)) (c.are_before.ensures.nothing c.if-are_before.true) ∙ c.loop-node.invariant.found
+    found_no_more c.args.bounds c.loop-node.index (items_in (drop c.loop-node.node-index c.deref-node-items.result.now))
+    (c.are_before.ensures.nothing c.if-are_before.true) ∙ c.loop-node.invariant.found
 
 pub first_in_items-first_in_node-requires : goal.first_in_items-first_in_node-requires
 first_in_items-first_in_node-requires t c =
@@ -19,7 +20,15 @@ first_in_items-first_in_node-requires t c =
     let index = c.loop-node.node-index in
     let rest = items_in (drop (index + 1) nodes) in
     let next = from_on nodes nodes index c.node-item.result refl (omega arith) c.node-item.is in (
-      omega (arith, c.decreases, ap depth_of c.nodes.ensures.items, ap (λ nodes. depth_of (items_in nodes)) c.deref-node-items.ensures.value, dropped index nodes, ap depth_of next, depth-append (items_at c.node-item.result) rest),
+      omega (
+        arith,
+        c.decreases,
+        ap depth_of c.nodes.ensures.items,
+        ap (λ nodes. depth_of (items_in nodes)) c.deref-node-items.ensures.value,
+        dropped index nodes,
+        ap depth_of next,
+        depth-append (items_at c.node-item.result) rest,
+      ),
       omega (arith, c.loop-node.invariant.few, ap count_of next, count-append (items_at c.node-item.result) rest),
     )
 
@@ -28,7 +37,8 @@ first_in_items-returns-in-Some t c =
     let nodes = c.deref-node-items.result.now in
     let index = c.loop-node.node-index in
     let next = from_on nodes nodes index c.node-item.result refl (omega arith) c.node-item.is in
-    found_here c.args.bounds c.loop-node.index (items_in (drop index nodes)) (items_at c.node-item.result) (items_in (drop (index + 1) nodes)) c.in-Some.attrs.now next c.in-Some.ensures
+    found_here c.args.bounds c.loop-node.index (items_in (drop index nodes)) (items_at c.node-item.result) (items_in (drop (index + 1) nodes))
+    c.in-Some.attrs.now next c.in-Some.ensures
     ∙ c.loop-node.invariant.found
 
 pub first_in_items-overflow_cast-index : goal.first_in_items-overflow_cast-index
@@ -37,7 +47,14 @@ first_in_items-overflow_cast-index t c =
     let index = c.loop-node.node-index in
     let rest = items_in (drop (index + 1) nodes) in
     let next = from_on nodes nodes index c.node-item.result refl (omega arith) c.node-item.is in
-    omega (arith, c.loop-node.invariant.few, ap count_of next, count-append (items_at c.node-item.result) rest, length-count (items_at c.node-item.result), c.len.ensures)
+    omega (
+      arith,
+      c.loop-node.invariant.few,
+      ap count_of next,
+      count-append (items_at c.node-item.result) rest,
+      length-count (items_at c.node-item.result),
+      c.len.ensures,
+    )
 
 pub first_in_items-overflow_add-index : goal.first_in_items-overflow_add-index
 first_in_items-overflow_add-index t c =
@@ -45,7 +62,14 @@ first_in_items-overflow_add-index t c =
     let index = c.loop-node.node-index in
     let rest = items_in (drop (index + 1) nodes) in
     let next = from_on nodes nodes index c.node-item.result refl (omega arith) c.node-item.is in
-    omega (arith, c.loop-node.invariant.few, ap count_of next, count-append (items_at c.node-item.result) rest, length-count (items_at c.node-item.result), c.len.ensures)
+    omega (
+      arith,
+      c.loop-node.invariant.few,
+      ap count_of next,
+      count-append (items_at c.node-item.result) rest,
+      length-count (items_at c.node-item.result),
+      c.len.ensures,
+    )
 
 pub first_in_items-loop-node-preserved : goal.first_in_items-loop-node-preserved
 first_in_items-loop-node-preserved t c =
@@ -54,8 +78,16 @@ first_in_items-loop-node-preserved t c =
     let rest = items_in (drop (index + 1) nodes) in
     let next = from_on nodes nodes index c.node-item.result refl (omega arith) c.node-item.is in
     record {
-      few = omega (arith, c.loop-node.invariant.few, ap count_of next, count-append (items_at c.node-item.result) rest, length-count (items_at c.node-item.result), c.len.ensures);
-      found = found_behind c.args.bounds c.loop-node.index (c.loop-node.index + c.len.result) (items_in (drop index nodes)) (items_at c.node-item.result) rest next c.in_default.ensures (ap (λ n. c.loop-node.index + n) c.len.ensures)
+      few = omega (
+        arith,
+        c.loop-node.invariant.few,
+        ap count_of next,
+        count-append (items_at c.node-item.result) rest,
+        length-count (items_at c.node-item.result),
+        c.len.ensures,
+      );
+      found = found_behind c.args.bounds c.loop-node.index (c.loop-node.index + c.len.result) (items_in (drop index nodes))
+          (items_at c.node-item.result) rest next c.in_default.ensures (ap (λ n. c.loop-node.index + n) c.len.ensures)
           ∙ c.loop-node.invariant.found;
     }
 

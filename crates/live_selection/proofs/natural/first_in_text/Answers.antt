@@ -7,7 +7,9 @@ overflow_cast-len c = omega (arith, text_fits c.args.text.now c.args.index c.req
 
 pub returns-then-have_one : goal.returns-then-have_one
 returns-then-have_one c =
-    ap Some c.attrs.ensures ∙ text_has_one c.args.bounds c.args.index c.args.text.now c.have_one.result c.len.result c.have_one.ensures c.len.ensures c.if-have_one.true
+    ap Some c.attrs.ensures ∙ text_has_one c.args.bounds c.args.index c.args.text.now c.have_one.result c.len.result c.have_one.ensures c.len.ensures
+    c.if-have_one.true
 
 pub returns-else-have_one : goal.returns-else-have_one
-returns-else-have_one c = text_has_none c.args.bounds c.args.index c.args.text.now c.have_one.result c.len.result c.have_one.ensures c.len.ensures c.if-have_one.false
+returns-else-have_one c = text_has_none c.args.bounds c.args.index c.args.text.now c.have_one.result c.len.result c.have_one.ensures c.len.ensures
+    c.if-have_one.false

@@ -12,4 +12,5 @@ loop-index-preserved c =
     let index = c.loop-index.index in
     let less : index < length c.args.table.now.entries = omega (arith, c.loop-index-test.true, c.len-index-end.ensures.len) in
     one_more shift index c.args.table.now.entries c.carry_at.new.table.entries less
-    (subst (λ es. IfSome (slice_get (values_of es) index) (λ range. c.carry_at.new.table.entries ≡ set_value_at es index (carry_range shift range))) c.loop-index.invariant c.carry_at.ensures)
+    (subst (λ es. IfSome (slice_get (values_of es) index) (λ range. c.carry_at.new.table.entries ≡ set_value_at es index (carry_range shift range)))
+    c.loop-index.invariant c.carry_at.ensures)

@@ -11,8 +11,10 @@ loop-node-preserved c =
     let first = items_at c.node-item.result in
     let rest = items_in (drop (c.loop-node.node-index + 1) c.args.nodes.now.items) in
     let whole = items_in c.args.made.now.items ++ drop c.args.offset (items_in c.args.nodes.now.items) in
-    let next = from_on c.deref-node-items.result.now c.args.nodes.now.items c.loop-node.node-index c.node-item.result c.deref-node-items.ensures.value (omega arith) c.node-item.is in
-    let before : front ++ drop c.loop-node.skip (first ++ rest) ≡ whole = ap (λ items. front ++ drop c.loop-node.skip items) (sym next) ∙ c.loop-node.invariant.items in
+    let next = from_on c.deref-node-items.result.now c.args.nodes.now.items c.loop-node.node-index c.node-item.result c.deref-node-items.ensures.value
+    (omega arith) c.node-item.is in
+    let before : front ++ drop c.loop-node.skip (first ++ rest) ≡ whole = ap (λ items. front ++ drop c.loop-node.skip items) (sym next)
+    ∙ c.loop-node.invariant.items in
     elim c.if-skip-long.branch [
       | then-skip-long+in_ok-add_part w ↦ record {
         items = (λ i. items_in (w.made-is i).items ++ drop (w.skip-is i) rest)

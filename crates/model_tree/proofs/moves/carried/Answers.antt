@@ -17,15 +17,18 @@ returns-then-len-at c =
 pub returns-then-number-offset : goal.returns-then-number-offset
 returns-then-number-offset c =
     behind_run c.args.parent.now c.args.offset c.args.count c.args.path.now.items c.index-number.result.now
-    (ap (λ path. is_some (rest_behind c.args.parent.now path)) (sym c.as_slice.ensures.value) ∙ sym c.if-not-is_below.ensures) (omega arith) c.index-number.ensures _ (omega arith) refl
+    (ap (λ path. is_some (rest_behind c.args.parent.now path)) (sym c.as_slice.ensures.value) ∙ sym c.if-not-is_below.ensures) (omega arith)
+    c.index-number.ensures _ (omega arith) refl
 
 pub returns-in_ok-push : goal.returns-in_ok-push
 returns-in_ok-push c =
     in_run c.args.parent.now c.args.offset c.args.count c.args.path.now.items c.index-number.result.now
-    (ap (λ path. is_some (rest_behind c.args.parent.now path)) (sym c.as_slice.ensures.value) ∙ sym c.if-not-is_below.ensures) (omega arith) c.index-number.ensures
+    (ap (λ path. is_some (rest_behind c.args.parent.now path)) (sym c.as_slice.ensures.value) ∙ sym c.if-not-is_below.ensures) (omega arith)
+    c.index-number.ensures
     c.truncate.new.self.items c.push.new.self.items (omega arith) (omega arith) c.truncate.ensures.items c.in_ok-push.ensures.items
 
 pub returns-else-number-offset-2 : goal.returns-else-number-offset-2
 returns-else-number-offset-2 c =
     before_run c.args.parent.now c.args.offset c.args.count c.args.path.now.items c.index-number.result.now
-    (ap (λ path. is_some (rest_behind c.args.parent.now path)) (sym c.as_slice.ensures.value) ∙ sym c.if-not-is_below.ensures) (omega arith) c.index-number.ensures (omega arith) (omega arith)
+    (ap (λ path. is_some (rest_behind c.args.parent.now path)) (sym c.as_slice.ensures.value) ∙ sym c.if-not-is_below.ensures) (omega arith)
+    c.index-number.ensures (omega arith) (omega arith)

@@ -16,8 +16,10 @@ returns-then-not-same c =
     let index = c.loop-node.node-index in
     let nodes = c.args.nodes.now.items in
     let next = from_on c.deref-node-items.result.now nodes index c.node-item.result c.deref-node-items.ensures.value (omega arith) c.node-item.is in
-    let full = full_at nodes index c.node-item.result c.requires (omega arith) (c.node-item.is ∙ ap (λ xs. get_or xs index c.node-item.result) c.deref-node-items.ensures.value) in
-    found_first key (option_copied c.value_in-found.result) old (items_at c.node-item.result) (items_in (drop (index + 1) nodes)) c.value_in-found.ensures full (sym c.if-not-same.ensures)
+    let full = full_at nodes index c.node-item.result c.requires (omega arith) (c.node-item.is
+    ∙ ap (λ xs. get_or xs index c.node-item.result) c.deref-node-items.ensures.value) in
+    found_first key (option_copied c.value_in-found.result) old (items_at c.node-item.result) (items_in (drop (index + 1) nodes))
+    c.value_in-found.ensures full (sym c.if-not-same.ensures)
     ∙ ap (option_map (λ item. value_of key (attributes_of item))) (sym (ap (first_other key old) next) ∙ c.loop-node.invariant)
 
 pub loop-node-preserved : goal.loop-node-preserved
@@ -27,5 +29,6 @@ loop-node-preserved c =
     let index = c.loop-node.node-index in
     let nodes = c.args.nodes.now.items in
     let next = from_on c.deref-node-items.result.now nodes index c.node-item.result c.deref-node-items.ensures.value (omega arith) c.node-item.is in
-    sym (passed_first key (option_copied c.value_in-found.result) old (items_at c.node-item.result) (items_in (drop (index + 1) nodes)) c.value_in-found.ensures (sym c.if-not-same.ensures))
+    sym (passed_first key (option_copied c.value_in-found.result) old (items_at c.node-item.result) (items_in (drop (index + 1) nodes))
+    c.value_in-found.ensures (sym c.if-not-same.ensures))
     ∙ sym (ap (first_other key old) next) ∙ c.loop-node.invariant

@@ -13,5 +13,6 @@ overflow_cast-result c =
 pub returns-in-Run : goal.returns-in-Run
 returns-in-Run c =
     let within : c.args.index < length (characters c.in-Run.text) = subst (λ node. c.args.index < length (items_at node)) c.in-Run.is c.requires.within in
-    character_shown c.scalars.result.now c.in-Run.text c.args.index c.index-scalars-index.result c.attrs.result.now c.scalars.ensures c.attrs.ensures within c.index-scalars-index.is
+    character_shown c.scalars.result.now c.in-Run.text c.args.index c.index-scalars-index.result c.attrs.result.now c.scalars.ensures c.attrs.ensures
+    within c.index-scalars-index.is
     ∙ ap (λ node. option_map shown_of (slice_get (items_at node) c.args.index)) (sym c.in-Run.is)

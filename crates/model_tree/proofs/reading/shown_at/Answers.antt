@@ -8,19 +8,27 @@ use Rattle.model_tree.proofs.reading.shown_at.Goals as goal
 pub shown-requires : goal.shown-requires
 shown-requires c = record {
   within = omega (arith, c.len-long.ensures);
-  few = omega (arith, node_few c.deref-node-items.result.now c.args.nodes.now.items c.loop-node.node-index c.node-item.result c.deref-node-items.ensures.value (omega arith) c.node-item.is, c.requires);
+  few = omega (
+    arith,
+    node_few c.deref-node-items.result.now c.args.nodes.now.items c.loop-node.node-index c.node-item.result
+        c.deref-node-items.ensures.value (omega arith) c.node-item.is,
+    c.requires,
+  );
 }
 
 pub returns-then-rest-long : goal.returns-then-rest-long
 returns-then-rest-long c =
-    let next = from_on c.deref-node-items.result.now c.args.nodes.now.items c.loop-node.node-index c.node-item.result c.deref-node-items.ensures.value (omega arith) c.node-item.is in
+    let next = from_on c.deref-node-items.result.now c.args.nodes.now.items c.loop-node.node-index c.node-item.result c.deref-node-items.ensures.value
+    (omega arith) c.node-item.is in
     let within : c.loop-node.rest < length (items_at c.node-item.result) = omega (arith, c.len-long.ensures) in
     c.shown.ensures
-    ∙ ap (option_map shown_of) (found_in (items_at c.node-item.result) (items_in (drop (c.loop-node.node-index + 1) c.args.nodes.now.items)) _ (items_in c.args.nodes.now.items) c.loop-node.rest c.args.offset next within c.loop-node.invariant)
+    ∙ ap (option_map shown_of) (found_in (items_at c.node-item.result) (items_in (drop (c.loop-node.node-index + 1) c.args.nodes.now.items)) _
+    (items_in c.args.nodes.now.items) c.loop-node.rest c.args.offset next within c.loop-node.invariant)
 
 pub loop-node-preserved : goal.loop-node-preserved
 loop-node-preserved c =
-    let next = from_on c.deref-node-items.result.now c.args.nodes.now.items c.loop-node.node-index c.node-item.result c.deref-node-items.ensures.value (omega arith) c.node-item.is in
+    let next = from_on c.deref-node-items.result.now c.args.nodes.now.items c.loop-node.node-index c.node-item.result c.deref-node-items.ensures.value
+    (omega arith) c.node-item.is in
     let behind : length (items_at c.node-item.result) ≤ c.loop-node.rest = omega (arith, c.len-long.ensures) in
     let rest = items_in (drop (c.loop-node.node-index + 1) c.args.nodes.now.items) in
     ap (λ n. slice_get rest (c.loop-node.rest - n)) c.len-long.ensures

@@ -6,4 +6,5 @@ use Rattle.model_writer.proofs.attributes.push_changes.Given as goal
 
 -- the changes of the runs so far stand behind the other operations
 abbrev pub invariant-loop-run : goal.invariant-loop-run
-invariant-loop-run l = operations_in l.operations ≡ operations_in l.initial.operations ++ attribute_runs l.parent l.key (option_copied l.new) (take l.run-index l.runs)
+invariant-loop-run l = operations_in l.operations ≡ operations_in l.initial.operations ++ attribute_runs l.parent l.key (option_copied l.new)
+    (take l.run-index l.runs)

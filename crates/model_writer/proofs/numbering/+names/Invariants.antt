@@ -13,4 +13,5 @@ decreases-unknown_among l = 2 * depth_of (items_in l.nodes.now.items) + 1
 
 -- the first unknown name is in the nodes that are left
 abbrev pub invariant-unknown_among-loop-node : goal.invariant-unknown_among-loop-node
-invariant-unknown_among-loop-node l = unknown_in (is_registered l.schema) (items_in (drop l.node-index l.nodes.items)) ≡ unknown_in (is_registered l.schema) (items_in l.nodes.items)
+invariant-unknown_among-loop-node l = unknown_in (is_registered l.schema) (items_in (drop l.node-index l.nodes.items))
+    ≡ unknown_in (is_registered l.schema) (items_in l.nodes.items)

@@ -13,4 +13,5 @@ node_length-inner_length-requires t c =
 
 pub length_of-returns : goal.length_of-returns
 length_of-returns t c =
-    all_summed c.args.nodes.now c.loop-node.node-index c.loop-node.sum _ c.loop-node.auto.node-index-end c.loop-node-test.false c.loop-node.invariant.total c.loop-node.invariant.small
+    all_summed c.args.nodes.now c.loop-node.node-index c.loop-node.sum _ c.loop-node.auto.node-index-end c.loop-node-test.false
+    c.loop-node.invariant.total c.loop-node.invariant.small

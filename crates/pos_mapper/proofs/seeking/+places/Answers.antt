@@ -15,7 +15,8 @@ push_place-returns t c =
     subst (λ (wanted : List ℕ). OnOk c.push_inside.result (c.push_inside.new.place.items ≡ wanted))
     (ap (λ list. list ++ place_in c.args.further c.in-Some.node.now c.in-Some.rest) c.in_ok-push.ensures.items
     ∙ append_assoc c.args.place.now.items (c.in-Some.index ∷ []) (place_in c.args.further c.in-Some.node.now c.in-Some.rest)
-    ∙ ap (λ list. c.args.place.now.items ++ list) (sym (place_first c.args.further c.args.nodes.now c.args.number c.in-Some.index c.in-Some.rest c.in-Some.node.now c.in-Some.ensures)))
+    ∙ ap (λ list. c.args.place.now.items ++ list)
+    (sym (place_first c.args.further c.args.nodes.now c.args.number c.in-Some.index c.in-Some.rest c.in-Some.node.now c.in-Some.ensures)))
     c.push_inside.ensures
 
 pub push_inside-push_place-requires : goal.push_inside-push_place-requires
@@ -23,4 +24,5 @@ push_inside-push_place-requires t c = (omega (arith, c.decreases, around_depth c
 
 pub push_place-returns-in_default : goal.push_place-returns-in_default
 push_place-returns-in_default t c =
-    sym (append-nil c.args.place.now.items) ∙ ap (λ list. c.args.place.now.items ++ list) (sym (place_nowhere c.args.further c.args.nodes.now c.args.number 0 c.in_default.ensures))
+    sym (append-nil c.args.place.now.items)
+    ∙ ap (λ list. c.args.place.now.items ++ list) (sym (place_nowhere c.args.further c.args.nodes.now c.args.number 0 c.in_default.ensures))

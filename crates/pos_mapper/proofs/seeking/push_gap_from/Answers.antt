@@ -15,5 +15,6 @@ returns c =
     subst (λ (wanted : List ℕ). OnOk c.push_gap_inside.result (c.push_gap_inside.new.place.items ≡ wanted))
     (ap (λ list. list ++ gap_in c.in-Some.node.now c.in-Some.rest) c.in_ok-push-2.ensures.items
     ∙ append_assoc c.args.place.now.items ((c.args.base + c.in-Some.index) ∷ []) (gap_in c.in-Some.node.now c.in-Some.rest)
-    ∙ ap (λ list. c.args.place.now.items ++ list) (sym (gap_found c.args.nodes.now c.args.number c.args.base c.in-Some.index c.in-Some.rest c.in-Some.node.now c.in-Some.ensures)))
+    ∙ ap (λ list. c.args.place.now.items ++ list)
+    (sym (gap_found c.args.nodes.now c.args.number c.args.base c.in-Some.index c.in-Some.rest c.in-Some.node.now c.in-Some.ensures)))
     c.push_gap_inside.ensures

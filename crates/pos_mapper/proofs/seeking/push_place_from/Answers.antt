@@ -15,9 +15,11 @@ returns c =
     subst (λ (wanted : List ℕ). OnOk c.push_inside.result (c.push_inside.new.place.items ≡ wanted))
     (ap (λ list. list ++ place_in c.args.further c.in-Some.node.now c.in-Some.rest) c.in_ok-push.ensures.items
     ∙ append_assoc c.args.place.now.items ((c.args.base + c.in-Some.index) ∷ []) (place_in c.args.further c.in-Some.node.now c.in-Some.rest)
-    ∙ ap (λ list. c.args.place.now.items ++ list) (sym (place_found c.args.further c.args.nodes.now c.args.number c.args.base c.in-Some.index c.in-Some.rest c.in-Some.node.now c.in-Some.ensures)))
+    ∙ ap (λ list. c.args.place.now.items ++ list)
+    (sym (place_found c.args.further c.args.nodes.now c.args.number c.args.base c.in-Some.index c.in-Some.rest c.in-Some.node.now c.in-Some.ensures)))
     c.push_inside.ensures
 
 pub returns-in_default : goal.returns-in_default
 returns-in_default c =
-    sym (append-nil c.args.place.now.items) ∙ ap (λ list. c.args.place.now.items ++ list) (sym (place_nowhere c.args.further c.args.nodes.now c.args.number c.args.base c.in_default.ensures))
+    sym (append-nil c.args.place.now.items)
+    ∙ ap (λ list. c.args.place.now.items ++ list) (sym (place_nowhere c.args.further c.args.nodes.now c.args.number c.args.base c.in_default.ensures))

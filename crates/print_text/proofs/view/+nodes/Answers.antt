@@ -20,5 +20,13 @@ push_node-returns-in-Element-Some t c =
 
 pub push_nodes-push_node-requires : goal.push_nodes-push_node-requires
 push_nodes-push_node-requires t c =
-    let nodes = c.as_slice-node-items.result.now in
-    (omega (arith, c.decreases, ap depth_of c.as_slice-node-items.ensures, no_deeper nodes c.loop-node.node-index c.node-item.result (omega arith) c.node-item.is), tt)
+    let nodes = c.as_slice-node-items.result.now in (
+      omega (
+        arith,
+        c.decreases,
+        ap depth_of c.as_slice-node-items.ensures,
+        no_deeper nodes c.loop-node.node-index c.node-item.result (omega arith)
+            c.node-item.is,
+      ),
+      tt,
+    )

@@ -20,5 +20,8 @@ use Rattle.program_definitions.specs.Machine.{accepted_line, refused_line, both_
 use Rattle.program_definitions.proofs.examples.clicks.Goals as goal
 
 pub returns : goal.returns
-unfolding serde_json_on_literals chars is_utf8 digits json_of object_at text_field offsets_at position_length_at position_field only_fields word_field optional_truth attributes_field check_child child_answer check_attribute attribute_answer children_of keys_of reachable predefined breach broken_rule insert_text_at beside_edit_of edit_of edit_at edits_at numbers_at place_field change_of select_view_of show_of form_of request_of printed_scalar quoted_scalar refusal_text marker_line direction selection_line accepted_line refused_line both_lines answer answers
+unfolding serde_json_on_literals chars is_utf8 digits json_of object_at text_field offsets_at position_length_at position_field only_fields word_field
+    optional_truth attributes_field check_child child_answer check_attribute attribute_answer children_of keys_of reachable predefined breach broken_rule
+    insert_text_at beside_edit_of edit_of edit_at edits_at numbers_at place_field change_of select_view_of show_of form_of request_of printed_scalar
+    quoted_scalar refusal_text marker_line direction selection_line accepted_line refused_line both_lines answer answers
 returns c = record { shown = refl; clicked = refl; nowhere = refl }

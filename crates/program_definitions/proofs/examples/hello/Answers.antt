@@ -18,5 +18,8 @@ use Rattle.program_definitions.specs.Machine.{accepted_line, refused_line, both_
 use Rattle.program_definitions.proofs.examples.hello.Goals as goal
 
 pub returns : goal.returns
-unfolding serde_json_on_literals chars is_utf8 digits json_of object_at text_field offsets_at position_length_at position_field only_fields word_field optional_truth attributes_field check_child child_answer check_attribute attribute_answer children_of keys_of reachable predefined breach broken_rule insert_text_at beside_edit_of edit_of edit_at edits_at change_of show_of form_of request_of printed_scalar quoted_scalar refusal_text accepted_line refused_line both_lines answer answers
+unfolding serde_json_on_literals chars is_utf8 digits json_of object_at text_field offsets_at position_length_at position_field only_fields word_field
+    optional_truth attributes_field check_child child_answer check_attribute attribute_answer children_of keys_of reachable predefined breach broken_rule
+    insert_text_at beside_edit_of edit_of edit_at edits_at change_of show_of form_of request_of printed_scalar quoted_scalar refusal_text accepted_line
+    refused_line both_lines answer answers
 returns c = refl

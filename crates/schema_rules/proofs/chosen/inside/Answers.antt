@@ -7,4 +7,5 @@ use Rattle.schema_rules.proofs.chosen.inside.Goals as goal
 pub returns : goal.returns
 returns c =
     λ next rest. c.loop-near.invariant next rest
-    ∙ ap (list_any (λ near. lists_near near (c.args.index ∷ next ∷ rest))) (take_all c.loop-near.near-index c.args.nears.now.items (omega (arith, c.deref-near-items.ensures.len)))
+    ∙ ap (list_any (λ near. lists_near near (c.args.index ∷ next ∷ rest)))
+    (take_all c.loop-near.near-index c.args.nears.now.items (omega (arith, c.deref-near-items.ensures.len)))

@@ -7,4 +7,5 @@ use Rattle.schema_rules.proofs.steps.add_entries.Given as goal
 
 -- the steps of the entries so far
 abbrev pub invariant-loop-entry : goal.invariant-loop-entry
-invariant-loop-entry l = IsGrown l.names l.direction l.initial.graph l.graph (λ node other. is_marked l.subjects node && lists (take l.entry-index l.entries) l.property (named l.names node) (named l.names other))
+invariant-loop-entry l = IsGrown l.names l.direction l.initial.graph l.graph (λ node other. is_marked l.subjects node
+    && lists (take l.entry-index l.entries) l.property (named l.names node) (named l.names other))

@@ -6,4 +6,5 @@ use Rattle.schema_rules.proofs.steps.add_steps.Given as goal
 
 -- the steps of the names so far
 abbrev pub invariant-loop-name : goal.invariant-loop-name
-invariant-loop-name l = IsGrown l.names l.direction l.initial.graph l.graph (λ node other. (l.item == node) && has (take l.name-index l.listed) (named l.names other))
+invariant-loop-name l = IsGrown l.names l.direction l.initial.graph l.graph (λ node other. (l.item == node)
+    && has (take l.name-index l.listed) (named l.names other))

@@ -4,4 +4,5 @@ use Rattle.schema_rules.proofs.tables.placing_steps.Goals as goal
 
 pub returns : goal.returns
 returns c = drawn_placing c.args.names.now c.args.entries.now c.in_ok-all.all c.in_ok-graph.graph c.add_entries.new.graph c.add_entries-2.new.graph
-    (c.in_ok-all.ensures ∙ ap (λ n. replicate n true) c.len.ensures.count) (c.in_ok-graph.ensures ∙ ap (λ n. replicate n []) c.len-2.ensures.count) c.in_ok-add_entries.ensures c.in_ok-add_entries-2.ensures
+    (c.in_ok-all.ensures ∙ ap (λ n. replicate n true) c.len.ensures.count) (c.in_ok-graph.ensures ∙ ap (λ n. replicate n []) c.len-2.ensures.count)
+    c.in_ok-add_entries.ensures c.in_ok-add_entries-2.ensures

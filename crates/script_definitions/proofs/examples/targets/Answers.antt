@@ -6,27 +6,43 @@ use Rattle.ck_base.specs.Name.{is_name}
 use Rattle.json_forms.specs.Form.{json_of, object_at, text_field, offsets_at, position_length_at, position_field, only_fields}
 use Rattle.json_names.specs.Names.{name_field, optional_truth}
 use Rattle.json_values.specs.Values.{value_at, value_field, nullable_at, nullable_field, attribute_at, attributes_from, attributes_field, path_field}
-use Rattle.script_definitions.specs.Edits.{insert_text_at, range_target_at, element_target_at, target_at, set_attribute_at, remove_attribute_at, split_at, merge_at, end_or, select_at, selection_attribute_at, beside_edit_of, element_edit_of, edit_of, edit_at, edits_at}
+use Rattle.script_definitions.specs.Edits.{insert_text_at, range_target_at, element_target_at, target_at, set_attribute_at, remove_attribute_at, split_at}
+use Rattle.script_definitions.specs.Edits.{merge_at, end_or, select_at, selection_attribute_at, beside_edit_of, element_edit_of, edit_of, edit_at, edits_at}
 use Rattle.script_definitions.specs.Places.{numbers_at, place_field}
 use Rattle.script_definitions.specs.Request.{change_of, select_view_of, show_of, form_of, request_of}
 use Rattle.script_definitions.proofs.examples.targets.Goals as goal
 
 pub returns-clause-root : goal.returns-clause-root
-unfolding serde_json_on_literals chars is_utf8 digits is_name json_of object_at text_field offsets_at position_length_at position_field only_fields name_field optional_truth value_at value_field nullable_at nullable_field attribute_at attributes_from attributes_field path_field insert_text_at range_target_at element_target_at target_at set_attribute_at remove_attribute_at split_at merge_at end_or select_at selection_attribute_at beside_edit_of element_edit_of edit_of edit_at edits_at numbers_at place_field change_of select_view_of show_of form_of request_of
+unfolding serde_json_on_literals chars is_utf8 digits is_name json_of object_at text_field offsets_at position_length_at position_field only_fields
+    name_field optional_truth value_at value_field nullable_at nullable_field attribute_at attributes_from attributes_field path_field insert_text_at
+    range_target_at element_target_at target_at set_attribute_at remove_attribute_at split_at merge_at end_or select_at selection_attribute_at
+    beside_edit_of element_edit_of edit_of edit_at edits_at numbers_at place_field change_of select_view_of show_of form_of request_of
 returns-clause-root c = refl
 
 pub returns-clause-path_beside_start : goal.returns-clause-path_beside_start
-unfolding serde_json_on_literals chars is_utf8 digits is_name json_of object_at text_field offsets_at position_length_at position_field only_fields name_field optional_truth value_at value_field nullable_at nullable_field attribute_at attributes_from attributes_field path_field insert_text_at range_target_at element_target_at target_at set_attribute_at remove_attribute_at split_at merge_at end_or select_at selection_attribute_at beside_edit_of element_edit_of edit_of edit_at edits_at numbers_at place_field change_of select_view_of show_of form_of request_of
+unfolding serde_json_on_literals chars is_utf8 digits is_name json_of object_at text_field offsets_at position_length_at position_field only_fields
+    name_field optional_truth value_at value_field nullable_at nullable_field attribute_at attributes_from attributes_field path_field insert_text_at
+    range_target_at element_target_at target_at set_attribute_at remove_attribute_at split_at merge_at end_or select_at selection_attribute_at
+    beside_edit_of element_edit_of edit_of edit_at edits_at numbers_at place_field change_of select_view_of show_of form_of request_of
 returns-clause-path_beside_start c = refl
 
 pub returns-clause-path_beside_end : goal.returns-clause-path_beside_end
-unfolding serde_json_on_literals chars is_utf8 digits is_name json_of object_at text_field offsets_at position_length_at position_field only_fields name_field optional_truth value_at value_field nullable_at nullable_field attribute_at attributes_from attributes_field path_field insert_text_at range_target_at element_target_at target_at set_attribute_at remove_attribute_at split_at merge_at end_or select_at selection_attribute_at beside_edit_of element_edit_of edit_of edit_at edits_at numbers_at place_field change_of select_view_of show_of form_of request_of
+unfolding serde_json_on_literals chars is_utf8 digits is_name json_of object_at text_field offsets_at position_length_at position_field only_fields
+    name_field optional_truth value_at value_field nullable_at nullable_field attribute_at attributes_from attributes_field path_field insert_text_at
+    range_target_at element_target_at target_at set_attribute_at remove_attribute_at split_at merge_at end_or select_at selection_attribute_at
+    beside_edit_of element_edit_of edit_of edit_at edits_at numbers_at place_field change_of select_view_of show_of form_of request_of
 returns-clause-path_beside_end c = refl
 
 pub returns-clause-null_path : goal.returns-clause-null_path
-unfolding serde_json_on_literals chars is_utf8 digits is_name json_of object_at text_field offsets_at position_length_at position_field only_fields name_field optional_truth value_at value_field nullable_at nullable_field attribute_at attributes_from attributes_field path_field insert_text_at range_target_at element_target_at target_at set_attribute_at remove_attribute_at split_at merge_at end_or select_at selection_attribute_at beside_edit_of element_edit_of edit_of edit_at edits_at numbers_at place_field change_of select_view_of show_of form_of request_of
+unfolding serde_json_on_literals chars is_utf8 digits is_name json_of object_at text_field offsets_at position_length_at position_field only_fields
+    name_field optional_truth value_at value_field nullable_at nullable_field attribute_at attributes_from attributes_field path_field insert_text_at
+    range_target_at element_target_at target_at set_attribute_at remove_attribute_at split_at merge_at end_or select_at selection_attribute_at
+    beside_edit_of element_edit_of edit_of edit_at edits_at numbers_at place_field change_of select_view_of show_of form_of request_of
 returns-clause-null_path c = refl
 
 pub returns-clause-neither : goal.returns-clause-neither
-unfolding serde_json_on_literals chars is_utf8 digits is_name json_of object_at text_field offsets_at position_length_at position_field only_fields name_field optional_truth value_at value_field nullable_at nullable_field attribute_at attributes_from attributes_field path_field insert_text_at range_target_at element_target_at target_at set_attribute_at remove_attribute_at split_at merge_at end_or select_at selection_attribute_at beside_edit_of element_edit_of edit_of edit_at edits_at numbers_at place_field change_of select_view_of show_of form_of request_of
+unfolding serde_json_on_literals chars is_utf8 digits is_name json_of object_at text_field offsets_at position_length_at position_field only_fields
+    name_field optional_truth value_at value_field nullable_at nullable_field attribute_at attributes_from attributes_field path_field insert_text_at
+    range_target_at element_target_at target_at set_attribute_at remove_attribute_at split_at merge_at end_or select_at selection_attribute_at
+    beside_edit_of element_edit_of edit_of edit_at edits_at numbers_at place_field change_of select_view_of show_of form_of request_of
 returns-clause-neither c = refl

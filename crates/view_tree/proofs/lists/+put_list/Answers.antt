@@ -7,5 +7,7 @@ pub returns : goal.returns
 returns t c =
     let same = ap (λ list. list.nodes) c.nodes.view_is in
     let within : c.in-Some.first.now < length c.nodes.inside.nodes.items = omega arith in
-    let at = stands c.nodes.inside.nodes.items c.args.nodes.now.nodes c.in-Some.first.now _ _ same within c.index_mut-node.ensures.value (ap node_view (sym c.in-Element.is) ∙ c.node.view_is) in
-    put_step c.nodes.inside.nodes.items c.args.nodes.now.nodes c.in-Some.first.now c.in-Some.rest.now c.args.path.now c.in-Element.field-0 c.in-Element.children.nodes same at c.in-Some.ensures.cases.0 _ _ c.put_list.ensures
+    let at = stands c.nodes.inside.nodes.items c.args.nodes.now.nodes c.in-Some.first.now _ _ same within c.index_mut-node.ensures.value
+    (ap node_view (sym c.in-Element.is) ∙ c.node.view_is) in
+    put_step c.nodes.inside.nodes.items c.args.nodes.now.nodes c.in-Some.first.now c.in-Some.rest.now c.args.path.now c.in-Element.field-0
+    c.in-Element.children.nodes same at c.in-Some.ensures.cases.0 _ _ c.put_list.ensures

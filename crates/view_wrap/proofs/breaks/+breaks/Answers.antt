@@ -17,20 +17,25 @@ break_layer-returns-clause-rest t c =
 
 pub break_list-returns-in_ok-whole-in-Some-2-clause-front : goal.break_list-returns-in_ok-whole-in-Some-2-clause-front
 break_list-returns-in_ok-whole-in-Some-2-clause-front t c =
-    inside_front c.args.at _ _ c.args.nodes.now.nodes _ _ c.place_of-index.ensures.index c.place_of-index.ensures.inside c.in_ok-back.ensures.front c.in_ok-back.ensures.back
+    inside_front c.args.at _ _ c.args.nodes.now.nodes _ _ c.place_of-index.ensures.index c.place_of-index.ensures.inside c.in_ok-back.ensures.front
+    c.in_ok-back.ensures.back
     _ _ c.in-Some.ensures.some c.if-inside-eq0.false _ c.in_ok-rest.ensures.front
 
 pub break_list-returns-in_ok-whole-in-Some-2-clause-back : goal.break_list-returns-in_ok-whole-in-Some-2-clause-back
 break_list-returns-in_ok-whole-in-Some-2-clause-back t c =
-    inside_back c.args.at _ _ c.args.nodes.now.nodes _ _ c.place_of-index.ensures.index c.place_of-index.ensures.inside c.in_ok-back.ensures.front c.in_ok-back.ensures.back
-    _ _ c.in-Some.ensures.some c.if-inside-eq0.false (c.in-Some-2.rest ∷ []) _ (ap option_to_list (sym c.in-Some-2.is) ∙ c.in_ok-rest.ensures.rest) c.in_ok-whole-in-Some-2.ensures
+    inside_back c.args.at _ _ c.args.nodes.now.nodes _ _ c.place_of-index.ensures.index c.place_of-index.ensures.inside c.in_ok-back.ensures.front
+    c.in_ok-back.ensures.back
+    _ _ c.in-Some.ensures.some c.if-inside-eq0.false (c.in-Some-2.rest ∷ []) _ (ap option_to_list (sym c.in-Some-2.is) ∙ c.in_ok-rest.ensures.rest)
+    c.in_ok-whole-in-Some-2.ensures
 
 pub break_list-returns-in-None-clause-front : goal.break_list-returns-in-None-clause-front
 break_list-returns-in-None-clause-front t c =
-    inside_front c.args.at _ _ c.args.nodes.now.nodes _ _ c.place_of-index.ensures.index c.place_of-index.ensures.inside c.in_ok-back.ensures.front c.in_ok-back.ensures.back
+    inside_front c.args.at _ _ c.args.nodes.now.nodes _ _ c.place_of-index.ensures.index c.place_of-index.ensures.inside c.in_ok-back.ensures.front
+    c.in_ok-back.ensures.back
     _ _ c.in-Some.ensures.some c.if-inside-eq0.false _ c.in_ok-rest.ensures.front
 
 pub break_list-returns-in-None-clause-back : goal.break_list-returns-in-None-clause-back
 break_list-returns-in-None-clause-back t c =
-    none_back c.args.at _ _ c.args.nodes.now.nodes _ _ c.place_of-index.ensures.index c.place_of-index.ensures.inside c.in_ok-back.ensures.front c.in_ok-back.ensures.back
+    none_back c.args.at _ _ c.args.nodes.now.nodes _ _ c.place_of-index.ensures.index c.place_of-index.ensures.inside c.in_ok-back.ensures.front
+    c.in_ok-back.ensures.back
     _ _ c.in-Some.ensures.some c.if-inside-eq0.false (ap option_to_list (sym c.in-None.is) ∙ c.in_ok-rest.ensures.rest)

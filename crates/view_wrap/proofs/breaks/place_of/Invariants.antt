@@ -7,5 +7,6 @@ abbrev pub invariant-loop-node : goal.invariant-loop-node
 invariant-loop-node l =
     record {
       index : l.index ≡ l.node-index;
-      place : place_of l.initial.rest l.node-items ≡ (l.node-index + (place_of l.rest (drop l.node-index l.node-items)).0, (place_of l.rest (drop l.node-index l.node-items)).1);
+      place : place_of l.initial.rest l.node-items
+          ≡ (l.node-index + (place_of l.rest (drop l.node-index l.node-items)).0, (place_of l.rest (drop l.node-index l.node-items)).1);
     }

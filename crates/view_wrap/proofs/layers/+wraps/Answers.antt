@@ -17,12 +17,14 @@ wrap_list-wrap_node-requires t c = (omega (arith, c.decreases, c.loop-node.invar
 pub wrap_list-loop-node-preserved : goal.wrap_list-loop-node-preserved
 wrap_list-loop-node-preserved t c =
     record {
-      made = wraps_gone_on c.args.layer.now c.loop-node.made.nodes c.loop-node.nodes.nodes _ _ _ _ c.loop-node.invariant.made c.in-Some.ensures.nodes (c.in_ok-push_joined.ensures ∙ ap (λ node. join c.loop-node.made.nodes (node ∷ [])) c.in_ok-wrapped.ensures);
+      made = wraps_gone_on c.args.layer.now c.loop-node.made.nodes c.loop-node.nodes.nodes _ _ _ _ c.loop-node.invariant.made c.in-Some.ensures.nodes
+          (c.in_ok-push_joined.ensures ∙ ap (λ node. join c.loop-node.made.nodes (node ∷ [])) c.in_ok-wrapped.ensures);
       depth = omega (arith, c.loop-node.invariant.depth, rest_depth _ _ _ c.in-Some.ensures.nodes);
     }
 
 pub wrap_list-returns : goal.wrap_list-returns
-wrap_list-returns t c = wraps_ended c.args.layer.now c.loop-node.made.nodes c.loop-node.nodes.nodes _ c.loop-node.invariant.made (c.in_default.ensures.none.0 refl)
+wrap_list-returns t c = wraps_ended c.args.layer.now c.loop-node.made.nodes c.loop-node.nodes.nodes _ c.loop-node.invariant.made
+    (c.in_default.ensures.none.0 refl)
 
 pub wrap_inside-wrap_list-requires : goal.wrap_inside-wrap_list-requires
 wrap_inside-wrap_list-requires t c = (omega (arith, c.decreases, children_depth _ _ c.take_children-children.ensures.children), tt)

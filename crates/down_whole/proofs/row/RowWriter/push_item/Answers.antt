@@ -6,6 +6,8 @@ use Rattle.down_whole.proofs.row.RowWriter.push_item.Goals as goal
 pub returns : goal.returns
 returns c = record {
   written =
-      item_written _ _ c.flush.new.self.layers.items c.join.new.self.layers.items c.args.layers.now c.flush.new.self.text.items c.join.new.self.text.items c.args.node c.flush.new.self.nodes.nodes c.join.new.self.nodes.nodes _
-      c.in_ok-flush.ensures.written c.in_ok-flush.ensures.text (ap (option_map (λ list. list.nodes)) c.in_ok-join.ensures.front) (ap (λ v. v.items) c.in_ok-join.ensures.text) c.in_ok-join.ensures.nodes;
+      item_written _ _ c.flush.new.self.layers.items c.join.new.self.layers.items c.args.layers.now c.flush.new.self.text.items
+      c.join.new.self.text.items c.args.node c.flush.new.self.nodes.nodes c.join.new.self.nodes.nodes _
+      c.in_ok-flush.ensures.written c.in_ok-flush.ensures.text (ap (option_map (λ list. list.nodes)) c.in_ok-join.ensures.front)
+      (ap (λ v. v.items) c.in_ok-join.ensures.text) c.in_ok-join.ensures.nodes;
 }

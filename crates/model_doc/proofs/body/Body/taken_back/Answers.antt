@@ -13,7 +13,8 @@ reversal-requires-clause-limits c = c.requires.limits
 
 pub returns-in-Ok : goal.returns-in-Ok
 returns-in-Ok c =
-    after_same c.in_ok-tree.tree c.args.self.now.state.document.items c.in_ok-cells.cells c.args.self.now.state.cells (operation_of c.in_ok-back.back) (back c.args.done.now.operation c.args.done.now.cell)
+    after_same c.in_ok-tree.tree c.args.self.now.state.document.items c.in_ok-cells.cells c.args.self.now.state.cells (operation_of c.in_ok-back.back)
+    (back c.args.done.now.operation c.args.done.now.cell)
     (c.apply-answer.new.tree, c.apply-answer.new.cells)
     (c.in_ok-tree.ensures ∙ ap (λ (m : Moment). m.state.document.items) c.self.view_is)
     (c.in_ok-cells.ensures ∙ ap (λ (m : Moment). m.state.cells) c.self.view_is)

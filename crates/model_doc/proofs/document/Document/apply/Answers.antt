@@ -14,7 +14,8 @@ returns-in-Ok-clause-leads c =
     let before = ap (λ (held : Held). held.state) c.self.view_is in
     let made = c.in-Ok.made in
     let put = c.put.ensures.body in
-    led_to c.args.self.now.state made.state operation c.put.result (record { state = c.put.new.self.state; mark = c.put.new.self.mark; kept = c.self.inside.kept })
+    led_to c.args.self.now.state made.state operation c.put.result
+    (record { state = c.put.new.self.state; mark = c.put.new.self.mark; kept = c.self.inside.kept })
     (subst IsSound before c.in-Ok.ensures.sound)
     (subst (λ (s : State). AreOrdered s.document.items) before c.in-Ok.ensures.ordered)
     c.in-Ok.ensures.places

@@ -11,5 +11,6 @@ returns-in_default-element_at c =
 
 pub returns-in_default-renamed : goal.returns-in_default-renamed
 returns-in_default-renamed c =
-    rename_there c.args.path.now c.args.offset c.args.name.now c.args.self.now c.in-Some.level.now c.in-Some-element_at.element.head.now c.in-Some-element_at.element.children.now
+    rename_there c.args.path.now c.args.offset c.args.name.now c.args.self.now c.in-Some.level.now c.in-Some-element_at.element.head.now
+    c.in-Some-element_at.element.children.now
     (sym c.in-Some.ensures) c.in-Some-element_at.ensures

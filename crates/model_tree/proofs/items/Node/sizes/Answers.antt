@@ -19,6 +19,7 @@ returns-in-Element-clause-sizes c =
     let head = c.in-Element.head in
     let inside = c.children.inside in
     subst (λ node. AreSizes (items_at node) 1 c.saturating_add.result c.saturating_add-in-Element.result) (sym c.in-Element.is)
-    (element_sizes head.id head.name head.attributes _ inside.sizes.long inside.sizes.count inside.sizes.depth c.saturating_add.result c.saturating_add-in-Element.result
+    (element_sizes head.id head.name head.attributes _ inside.sizes.long inside.sizes.count inside.sizes.depth c.saturating_add.result
+    c.saturating_add-in-Element.result
     (subst (λ items. AreSizes items inside.sizes.long inside.sizes.count inside.sizes.depth) c.children.view_is c.children.invariant.sizes)
     c.saturating_add.ensures c.saturating_add-in-Element.ensures)

@@ -11,4 +11,5 @@ returns c =
     c.as_view_place.ensures
     (c.in_ok-push_shown.ensures
     ∙ (λ i. c.new-place.ensures.items i
-    ++ shown_at (slots_in (ap (λ (m : Mapper). m.bindings) c.self.view_is i)) (c.caret_at.ensures i) (c.caret_place.ensures i) 0 ((c.as_slice-nodes.ensures ∙ c.nodes.ensures) i) (c.as_slice-numbers.ensures.numbers i)))
+    ++ shown_at (slots_in (ap (λ (m : Mapper). m.bindings) c.self.view_is i)) (c.caret_at.ensures i) (c.caret_place.ensures i) 0
+    ((c.as_slice-nodes.ensures ∙ c.nodes.ensures) i) (c.as_slice-numbers.ensures.numbers i)))

@@ -6,4 +6,5 @@ use Rattle.schema_rules.proofs.chosen.Chosen.listed.Given as goal
 
 -- what is made of the spots so far lists what they list
 abbrev pub invariant-loop-spot : goal.invariant-loop-spot
-invariant-loop-spot l = (path : List ℕ) → list_any (λ near. lists_near near path) l.nears.items ≡ list_any (λ spot. lists_path spot path) (take l.spot-index l.spots)
+invariant-loop-spot l = (path : List ℕ) → list_any (λ near. lists_near near path) l.nears.items
+    ≡ list_any (λ spot. lists_path spot path) (take l.spot-index l.spots)

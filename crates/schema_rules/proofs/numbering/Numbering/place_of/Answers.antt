@@ -11,7 +11,9 @@ looked : (c : goal.After-copied) → c.copied.result ≡ get name_cmp c.self.ins
 looked c = c.copied.ensures ∙ c.get.ensures.value
 
 pub returns-clause-there : goal.returns-clause-there
-returns-clause-there c = subst (λ names. is_some c.copied.result ≡ has names c.args.name.now) c.self.view_is (number_there c.self.inside.names.items c.self.inside.places c.self.invariant c.args.name.now c.copied.result (looked c))
+returns-clause-there c = subst (λ names. is_some c.copied.result ≡ has names c.args.name.now) c.self.view_is
+    (number_there c.self.inside.names.items c.self.inside.places c.self.invariant c.args.name.now c.copied.result (looked c))
 
 pub returns-clause-exact : goal.returns-clause-exact
-returns-clause-exact c = subst (λ names. (node : ℕ) → node < length names → is_at c.copied.result node ≡ bytes_eq c.args.name.now (named names node)) c.self.view_is (number_exact c.self.inside.names.items c.self.inside.places c.self.invariant c.args.name.now c.copied.result (looked c))
+returns-clause-exact c = subst (λ names. (node : ℕ) → node < length names → is_at c.copied.result node ≡ bytes_eq c.args.name.now (named names node))
+    c.self.view_is (number_exact c.self.inside.names.items c.self.inside.places c.self.invariant c.args.name.now c.copied.result (looked c))

@@ -9,7 +9,8 @@ abbrev pub invariant-breach_below-loop-node : goal.invariant-breach_below-loop-n
 invariant-breach_below-loop-node l = record {
   back : l.above ≡ l.initial.above;
   there : AreThere l.initial.above l.index (items_in (drop l.node-index l.node-items));
-  found : breach_from l.self.schema.now l.chosen l.initial.above l.index (items_in (drop l.node-index l.node-items)) ≡ breach_from l.self.schema.now l.chosen l.initial.above 0 l.items;
+  found : breach_from l.self.schema.now l.chosen l.initial.above l.index (items_in (drop l.node-index l.node-items))
+      ≡ breach_from l.self.schema.now l.chosen l.initial.above 0 l.items;
 }
 
 abbrev pub decreases-breach_below : goal.decreases-breach_below

@@ -11,7 +11,8 @@ overflow_add-end c = omega (arith, text_fits c.args.above.now c.args.index c.arg
 
 pub returns-then-first-end : goal.returns-then-first-end
 returns-then-first-end c =
-    text_untested c.args.self.now.schema.now c.args.chosen.now c.args.above.now c.args.index (c.args.index + c.len.result) c.args.text.now (ap (λ n. c.args.index + n) c.len.ensures)
+    text_untested c.args.self.now.schema.now c.args.chosen.now c.args.above.now c.args.index (c.args.index + c.len.result) c.args.text.now
+    (ap (λ n. c.args.index + n) c.len.ensures)
     (λ i low high. c.first-first.ensures.before i low (omega arith))
 
 pub breach_here-requires-clause-short : goal.breach_here-requires-clause-short
@@ -20,6 +21,8 @@ breach_here-requires-clause-short c = text_short c.args.above.now c.args.index c
 pub returns : goal.returns
 returns c =
     subst (λ wanted. IfOk c.breach_here.result (λ found. found ≡ wanted))
-    (text_tested c.args.self.now.schema.now c.args.chosen.now c.args.above.now c.args.index (c.args.index + c.len.result) c.first-first.result c.args.text.now c.args.self.now.text c.attrs.result.now c.args.self.now.is_text
-    c.attrs.ensures (ap (λ n. c.args.index + n) c.len.ensures) (omega arith) (omega arith) c.first-first.ensures.before (c.first-first.ensures.there (omega arith)))
+    (text_tested c.args.self.now.schema.now c.args.chosen.now c.args.above.now c.args.index (c.args.index + c.len.result) c.first-first.result
+    c.args.text.now c.args.self.now.text c.attrs.result.now c.args.self.now.is_text
+    c.attrs.ensures (ap (λ n. c.args.index + n) c.len.ensures) (omega arith) (omega arith) c.first-first.ensures.before
+    (c.first-first.ensures.there (omega arith)))
     c.breach_here.ensures

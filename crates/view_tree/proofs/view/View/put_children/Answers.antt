@@ -6,7 +6,8 @@ pub returns-in_default-clause-err : goal.returns-in_default-clause-err
 returns-in_default-clause-err c =
     let inside = c.self.inside.nodes.nodes in
     unchanged c.args.parent.now c.as_slice-path.result.now inside c.self.inside.drawn c.args.self.now c.as_slice-path.ensures c.self.view_is _
-    (nowhere c.args.parent.now c.as_slice-path.result.now inside c.self.inside.drawn c.args.self.now c.as_slice-path.ensures c.self.view_is _ c.in_default.ensures.list c.in_default.ensures.left)
+    (nowhere c.args.parent.now c.as_slice-path.result.now inside c.self.inside.drawn c.args.self.now c.as_slice-path.ensures c.self.view_is _
+    c.in_default.ensures.list c.in_default.ensures.left)
 
 pub returns-then-not-is_empty-clause-err : goal.returns-then-not-is_empty-clause-err
 returns-then-not-is_empty-clause-err c =
