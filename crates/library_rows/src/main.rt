@@ -4,7 +4,6 @@
 #![tactic(auto)]
 
 mod bindings;
-mod documents;
 mod names;
 mod operations;
 mod report;
@@ -30,7 +29,6 @@ fn all_rows(runtime: &HostRuntime) -> Report<'_> {
     operations::rows(alloc, &mut report);
     schemas::rows(alloc, &mut report);
     bindings::rows(alloc, &mut report);
-    documents::rows(alloc, &mut report);
     report
 }
 
