@@ -1,11 +1,13 @@
 //! Markers, and elements that are bound to their view elements.
-use crate::operations::in_root;
+ghost use Rattle.std.specs.Prelude.{◌≡◌, ◌∷◌, []};
+
 use crate::report::Report;
 use crate::samples::name;
 use crate::views::container;
 use ck_base::name::Name;
+use ck_base::path::Path;
 use marker_table::Markers;
-use model_pos::Range;
+use model_pos::{Position, Range};
 use model_tree::id::ElementId;
 use pos_mapper::mapper::Mapper;
 use pos_mapper::parts::Slot;
@@ -18,6 +20,18 @@ use view_tree::view::View;
 pub fn rows(alloc: Global, report: &mut Report<'_>) {
     report.row("markers are copied", copies_markers(alloc));
     report.row("a bound element has its number", binds(alloc));
+}
+
+/// The position at an offset in the root.
+fn in_root(alloc: Global, offset: u32) -> Position
+    ensures { result ≡ offset ∷ [] }
+{
+    let mut path = Path::new(alloc);
+    path.push(offset);
+    match Position::new(alloc, path) {
+        Some(position) => position,
+        None => unreachable!(),
+    }
 }
 
 fn copies_markers(alloc: Global) -> bool {

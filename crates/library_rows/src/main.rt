@@ -5,7 +5,6 @@
 
 mod bindings;
 mod names;
-mod operations;
 mod report;
 mod samples;
 mod schemas;
@@ -26,7 +25,6 @@ fn all_rows(runtime: &HostRuntime) -> Report<'_> {
     trees::rows(alloc, &mut report);
     views::rows(alloc, &mut report);
     wrapping::rows(alloc, &mut report);
-    operations::rows(alloc, &mut report);
     schemas::rows(alloc, &mut report);
     bindings::rows(alloc, &mut report);
     report

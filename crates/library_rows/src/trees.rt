@@ -46,7 +46,7 @@ fn on_sample<Row: Fn(Global, &mut Tree) -> bool>(alloc: Global, row: Row) -> boo
 }
 
 /// A tree of two paragraphs.
-pub fn sample(alloc: Global) -> Option<Tree> {
+fn sample(alloc: Global) -> Option<Tree> {
     let mut tree = Tree::new(alloc).ok()?;
     if brings(alloc, &mut tree, 2, "cd") && brings(alloc, &mut tree, 1, "ab") {
         Some(tree)
@@ -72,7 +72,7 @@ fn paragraph(alloc: Global, id: u16, text: &str) -> Option<Items> {
 }
 
 /// The characters of a text without attributes.
-pub fn characters(alloc: Global, text: &str) -> Option<Items> {
+fn characters(alloc: Global, text: &str) -> Option<Items> {
     Items::text(alloc, text, &Attrs::new(alloc)).ok()
 }
 
