@@ -1,0 +1,6 @@
+pub mod History
+pub mod Stacked
+pub mod Layout
+pub mod Chains
+pub mod Kept
+pub mod Replays

@@ -1,0 +1,55 @@
+//! A batch taken back, and made anew.
+ghost use Rattle.std.specs.Prelude.{◌≡◌, reverse, IfOk, OnOk};
+ghost use Rattle.model_doc.specs.Held.{Moment, present};
+ghost use Rattle.undo_stack.specs.Chains.{LedBack, LedOn};
+ghost use Rattle.undo_stack.specs.Replays.{HasBack, ComesBack, HasOn, ComesOn};
+
+use ck_base::NoMemory;
+use model_doc::{Batch, Document, Record};
+use model_ops::fault::OpFault;
+use std::alloc::{AllocError, Global};
+
+/// Takes records back, the last first. It answers `NoMemory` alone beside Ok; then some of them may be taken back. What is kept stays kept.
+pub(crate) fn take_back(document: &mut Document, records: &[Record]) -> Result<(), NoMemory>
+    requires { HasBack (reverse records.now) document.old }
+    ensures back { OnOk result (ComesBack (reverse records.now) document.old document.new) }
+    ensures kept { document.new.kept ≡ document.old.kept }
+{
+    let mut left = records;
+    'records: while let Some((done, before)) = left.split_last() {
+        document.revert(done)?;
+        left = before;
+    }
+    Ok(())
+}
+
+/// Makes the operations of records anew, and answers their batch, which has the document's present selection. It answers `NoMemory` alone
+/// beside Ok; then some of them may be made. What is kept stays kept.
+pub(crate) fn make_anew(
+    alloc: Global,
+    document: &mut Document,
+    records: &[Record],
+) -> Result<Batch, NoMemory>
+    requires { HasOn records.now document.old }
+    ensures on { IfOk result (λ batch. ComesOn records.now batch.records document.old document.new) }
+    ensures selection { IfOk result (λ batch. batch.selection ≡ document.old.state.document.selection) }
+    ensures kept { document.new.kept ≡ document.old.kept }
+{
+    let mut batch = Batch::begin(alloc, document)?;
+    for done in records {
+        again(document, done, &mut batch)?;
+    }
+    Ok(batch)
+}
+
+/// Makes the operation of a record anew, and puts its new record last. It answers `NoMemory` alone beside Ok.
+fn again(document: &mut Document, done: &Record, batch: &mut Batch) -> Result<(), NoMemory>
+{
+    let operation = done.operation().copy()?;
+    batch.reserve()?;
+    let Ok(made) = document.apply(operation) else {
+        return Err(AllocError);
+    };
+    batch.push(made);
+    Ok(())
+}
