@@ -11,7 +11,7 @@ use Rattle.undo_stack.specs.Stacked.{Undone, Lists}
 
 -- Reverted at a moment, a batch gives this document, which stood at the moment when it was begun, whatever cells are left.
 pub record IsEarlier (start : Moment) (batch : Batched) (document : Document) (now : Moment) : Type 0 where
-  pub document : start.state.document ≡ document
+  pub same : start.state.document ≡ document
   pub sound : IsSound start.state
   pub selection : batch.selection ≡ document.selection
   pub led : LedBack start (reverse batch.records) now
@@ -34,7 +34,7 @@ pub record IsLike (moment now : Moment) : Type 0 where
 -- Made anew at a moment, the operations of a batch that was undone give this document, with the selection that was kept, whatever cells are
 -- left.
 pub record IsUndone (start last : Moment) (undone : Undone) (document : Document) (now : Moment) : Type 0 where
-  pub document : last.state.document ≡ document
+  pub same : last.state.document ≡ document
   pub sound : IsSound last.state
   pub selection : undone.selection ≡ document.selection
   pub led : LedOn start undone.batch.records last

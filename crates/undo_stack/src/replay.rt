@@ -10,6 +10,7 @@ use model_ops::fault::OpFault;
 use std::alloc::{AllocError, Global};
 
 /// Takes records back, the last first. It answers `NoMemory` alone beside Ok; then some of them may be taken back. What is kept stays kept.
+#[tactic(auto, using(crate::proofs::Moments::begins_back, crate::proofs::Moments::may_revert, crate::proofs::Moments::goes_back, crate::proofs::Moments::ends_back))]
 pub(crate) fn take_back(document: &mut Document, records: &[Record]) -> Result<(), NoMemory>
     requires { HasBack (reverse records.now) document.old }
     ensures back { OnOk result (ComesBack (reverse records.now) document.old document.new) }
@@ -43,6 +44,7 @@ pub(crate) fn make_anew(
 }
 
 /// Makes the operation of a record anew, and puts its new record last. It answers `NoMemory` alone beside Ok.
+#[tactic(auto)]
 fn again(document: &mut Document, done: &Record, batch: &mut Batch) -> Result<(), NoMemory>
 {
     let operation = done.operation().copy()?;
