@@ -2,7 +2,7 @@
 use Rattle.std.specs.Prelude.{◌≡◌, ◌+◌, ◌≤◌, List, [], ◌∷◌, length, reverse}
 use Rattle.operation_definitions.specs.Operation.{Operation}
 use Rattle.model_doc.specs.Held.{Held, Moment, present}
-use Rattle.model_doc.specs.Records.{Done}
+use Rattle.model_doc.specs.Records.{Done, done_on}
 use Rattle.undo_stack.specs.Chains.{IsFrom, LedBack, LedOn}
 use Rattle.undo_stack.specs.Kept.{IsLike}
 
@@ -23,6 +23,10 @@ pub record IsAt (start last : Moment) (records : List Done) (held : Held) : Type
 
 abbrev pub HasOn : List Done → Held → Type 0
 HasOn records held = (start : Moment) × (last : Moment) × IsAt start last records held
+
+-- the record of an operation that was made anew
+abbrev pub done_again : Done → Held → Held → Done
+done_again done old new = done_on old.state done.operation new.state (old.mark + 1)
 
 -- wherever the records lead on to, the document is that but for the selection and for cells that are empty; and the new records lead back
 -- from it to the document that it was

@@ -1,8 +1,9 @@
 //! A batch taken back, and made anew.
-ghost use Rattle.std.specs.Prelude.{◌≡◌, reverse, IfOk, OnOk};
-ghost use Rattle.model_doc.specs.Held.{Moment, present};
-ghost use Rattle.undo_stack.specs.Chains.{LedBack, LedOn};
-ghost use Rattle.undo_stack.specs.Replays.{HasBack, ComesBack, HasOn, ComesOn};
+ghost use Rattle.std.specs.Prelude.{◌≡◌, ◌+◌, [], ◌∷◌, ◌++◌, reverse, Ok, IfOk, OnOk};
+ghost use Rattle.document_definitions.specs.Document.{applied};
+ghost use Rattle.model_doc.specs.Conditions.{IsWelcome};
+ghost use Rattle.model_doc.specs.Records.{Leads};
+ghost use Rattle.undo_stack.specs.Replays.{HasBack, ComesBack, HasOn, ComesOn, done_again};
 
 use ck_base::NoMemory;
 use model_doc::{Batch, Document, Record};
@@ -26,6 +27,7 @@ pub(crate) fn take_back(document: &mut Document, records: &[Record]) -> Result<(
 
 /// Makes the operations of records anew, and answers their batch, which has the document's present selection. It answers `NoMemory` alone
 /// beside Ok; then some of them may be made. What is kept stays kept.
+#[tactic(auto, using(crate::proofs::GoingOn::begins_on, crate::proofs::GoingOn::may_apply, crate::proofs::GoingOn::goes_on, crate::proofs::GoingOn::ends_on))]
 pub(crate) fn make_anew(
     alloc: Global,
     document: &mut Document,
@@ -43,9 +45,16 @@ pub(crate) fn make_anew(
     Ok(batch)
 }
 
-/// Makes the operation of a record anew, and puts its new record last. It answers `NoMemory` alone beside Ok.
-#[tactic(auto)]
+/// Makes the operation of a record anew, and puts its new record last. It answers `NoMemory` alone beside Ok; then nothing has changed, but
+/// that the batch may have room for more records.
 fn again(document: &mut Document, done: &Record, batch: &mut Batch) -> Result<(), NoMemory>
+    requires { IsWelcome done.now.operation document.old.state }
+    ensures ok { OnOk result (applied done.now.operation document.old.state ≡ Ok document.new.state) }
+    ensures mark { OnOk result (document.new.mark ≡ document.old.mark + 1) }
+    ensures record { OnOk result (batch.new.records ≡ batch.old.records ++ done_again done.now document.old document.new ∷ []) }
+    ensures leads { OnOk result (Leads document.old.state (done_again done.now document.old document.new) document.new) }
+    ensures selection { batch.new.selection ≡ batch.old.selection }
+    ensures kept { document.new.kept ≡ document.old.kept }
 {
     let operation = done.operation().copy()?;
     batch.reserve()?;
