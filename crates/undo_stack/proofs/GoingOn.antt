@@ -1,7 +1,8 @@
 -- Operations that are made anew.
-use Rattle.std.proofs.Common.{◌≡◌, ℕ, zero, suc, ◌+◌, ◌≤◌, nat_eq, List, [], ◌∷◌, ◌++◌, length, reverse, drop, Result, Ok, Err, refl, sym, ap, ◌∙◌, subst, arith}
+use Rattle.std.proofs.Common.{◌≡◌, ℕ, zero, suc, ◌+◌, ◌<◌, ◌≤◌, nat_eq, List, [], ◌∷◌, ◌++◌, length, get_or, reverse, drop, Result, Ok, Err, refl, sym, ap, ◌∙◌, subst, arith}
 use Rattle.std.specs.List.{flat_map, IsDistinct}
 use Rattle.std.proofs.lemmas.List.{reverse-append}
+use Rattle.std.proofs.Math.Seq.{drop-cons}
 use Rattle.item_definitions.specs.Item.{Item}
 use Rattle.operation_definitions.specs.Operation.{Operation, Fault}
 use Rattle.operation_definitions.specs.After.{after, in_cell_at}
@@ -51,12 +52,12 @@ welcome-alike operation state other alike welcome =
 record Parts (operation : Operation) (state made : State) : Type 0 where
   both : Both
   after : after state.document.items state.cells operation ≡ Ok both
-  made : changed operation state both ≡ made
+  is : changed operation state both ≡ made
 
 parts : (operation : Operation) (state made : State) → applied operation state ≡ Ok made → Parts operation state made
 parts operation state made e =
     let a = step-ok (after state.document.items state.cells operation) (λ both. Ok (changed operation state both)) made e in
-    record { both = a.0; after = a.1; made = cc }
+    record { both = a.0; after = a.1; is = cc }
 
 -- what it makes of two that are alike is alike
 record AreMadeAlike (other made other_made : State) : Type 0 where
@@ -74,11 +75,11 @@ made-alike operation state other made other_made alike e f =
     let match = effect-same state.cells other.cells alike.cells.0 state.document.items p.both q.both operation
       (after-effect state.document.items state.cells operation p.both p.after) (after-effect state.document.items other.cells operation q.both there) in
     record {
-      items = sym (ap (λ (s : State). s.document.items) q.made) ∙ match.0 ∙ ap (λ (s : State). s.document.items) p.made;
-      markers = sym (ap (λ (s : State). s.document.markers) q.made) ∙ ap (markers_after operation) alike.markers ∙ ap (λ (s : State). s.document.markers) p.made;
-      next_id = sym (ap (λ (s : State). s.document.next_id) q.made) ∙ ap (λ next. raised next (brought operation)) alike.next_id ∙ ap (λ (s : State). s.document.next_id) p.made;
-      cells = λ n. sym (ap (λ (s : State). in_cell_at s.cells n) q.made) ∙ match.1 n ∙ ap (λ (s : State). in_cell_at s.cells n) p.made;
-      long = subst (λ (s : State). length other.cells ≤ length s.cells) q.made match.2;
+      items = sym (ap (λ (s : State). s.document.items) q.is) ∙ match.0 ∙ ap (λ (s : State). s.document.items) p.is;
+      markers = sym (ap (λ (s : State). s.document.markers) q.is) ∙ ap (markers_after operation) alike.markers ∙ ap (λ (s : State). s.document.markers) p.is;
+      next_id = sym (ap (λ (s : State). s.document.next_id) q.is) ∙ ap (λ next. raised next (brought operation)) alike.next_id ∙ ap (λ (s : State). s.document.next_id) p.is;
+      cells = λ n. sym (ap (λ (s : State). in_cell_at s.cells n) q.is) ∙ match.1 n ∙ ap (λ (s : State). in_cell_at s.cells n) p.is;
+      long = subst (λ (s : State). length other.cells ≤ length s.cells) q.is match.2;
     }
 
 itself : (state : State) → AreAlike state state
@@ -217,3 +218,10 @@ ends_on all left new_records old now part none = record {
   });
   back = part.back;
 }
+
+-- from the next one on
+pub one_left : (all : List Done) (index : ℕ) (done : Done) → index < length all → done ≡ get_or all index done → drop index all ≡ done ∷ drop (index + 1) all
+one_left all index done less found = drop-cons all index done less ∙ (λ i. sym found i ∷ drop (up i) all)
+  where
+    up : suc index ≡ index + 1
+    up = omega arith
