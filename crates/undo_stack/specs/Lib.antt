@@ -4,3 +4,4 @@ pub mod Layout
 pub mod Chains
 pub mod Kept
 pub mod Replays
+pub mod Turns

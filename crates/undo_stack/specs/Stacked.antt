@@ -1,5 +1,5 @@
 -- What is seen of the stacks.
-use Rattle.std.specs.Prelude.{ℕ, List, [], ◌∷◌, Option, Some, None}
+use Rattle.std.specs.Prelude.{ℕ, Bool, true, false, List, [], ◌∷◌, Option, Some, None}
 use Rattle.document_definitions.specs.Selection.{Selection}
 use Rattle.model_doc.specs.Batched.{Batched}
 
@@ -19,6 +19,11 @@ pub record Stacked : Type 0 where
   pub lists : Lists
   pub before : Option Lists
   pub spare : ℕ
+
+-- a list is empty
+abbrev pub is_none_of : {A : Type 0} → List A → Bool
+is_none_of [] = true
+is_none_of (first ∷ rest) = false
 
 -- no batches
 abbrev pub no_lists : Lists

@@ -3,11 +3,12 @@ ghost use Rattle.std.specs.Prelude.{◌≡◌, ◌+◌, [], ◌∷◌, ◌++◌,
 ghost use Rattle.document_definitions.specs.Document.{applied};
 ghost use Rattle.model_doc.specs.Conditions.{IsWelcome};
 ghost use Rattle.model_doc.specs.Records.{Leads};
+ghost use Rattle.undo_stack.specs.Turns.{MayUndo, IsTakenBack, MayRedo, IsMadeAnew};
 ghost use Rattle.undo_stack.specs.Replays.{HasBack, ComesBack, HasOn, ComesOn, done_again};
 
 use ck_base::NoMemory;
+use live_selection::Selection;
 use model_doc::{Batch, Document, Record};
-use model_ops::fault::OpFault;
 use std::alloc::{AllocError, Global};
 
 /// Takes records back, the last first. It answers `NoMemory` alone beside Ok; then some of them may be taken back. What is kept stays kept.
@@ -63,4 +64,42 @@ fn again(document: &mut Document, done: &Record, batch: &mut Batch) -> Result<()
     };
     batch.push(made);
     Ok(())
+}
+
+/// Takes a whole batch back, and puts the selection from when it was begun in place. It answers the selection from before, or `NoMemory`
+/// alone; then some records may be taken back. What is kept stays kept.
+pub(crate) fn take_batch_back(
+    document: &mut Document,
+    batch: &Batch,
+) -> Result<Selection, NoMemory>
+    requires { MayUndo batch.now document.old }
+    ensures back { OnOk result (IsTakenBack batch.now document.old document.new) }
+    ensures selection { IfOk result (λ selection. selection ≡ document.old.state.document.selection) }
+    ensures kept { document.new.kept ≡ document.old.kept }
+{
+    let after = document.selection().copy()?;
+    let before = batch.selection().copy()?;
+    take_back(document, batch.records())?;
+    document.put_selection(before);
+    let _sound = document.tree();
+    Ok(after)
+}
+
+/// Makes a batch that was undone anew, and puts this selection in place. It answers the new batch, or `NoMemory` alone; then some
+/// operations may be made. What is kept stays kept.
+pub(crate) fn make_batch_anew(
+    alloc: Global,
+    document: &mut Document,
+    batch: &Batch,
+    selection: &Selection,
+) -> Result<Batch, NoMemory>
+    requires { MayRedo (record { batch = batch.now; selection = selection.now }) document.old }
+    ensures on { IfOk result (λ made. IsMadeAnew (record { batch = batch.now; selection = selection.now }) made document.old document.new) }
+    ensures kept { document.new.kept ≡ document.old.kept }
+{
+    let after = selection.copy()?;
+    let made = make_anew(alloc, document, batch.records())?;
+    document.put_selection(after);
+    let _sound = document.tree();
+    Ok(made)
 }

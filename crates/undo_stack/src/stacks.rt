@@ -1,8 +1,6 @@
 //! The stacks of undo and redo.
-ghost use Rattle.std.specs.Prelude.{◌≡◌, ◌-◌, ◌≤◌, None, IsSome, OnOk, OnErr};
-ghost use Rattle.model_doc.specs.Held.{present, letting_go};
-ghost use Rattle.undo_stack.specs.History.{History, undo, redo};
-ghost use Rattle.undo_stack.specs.Stacked.{Lists, no_lists, with_batch};
+ghost use Rattle.std.specs.Prelude.{◌≡◌, ◌≤◌, not, None, OnOk, OnErr};
+ghost use Rattle.undo_stack.specs.Stacked.{no_lists, with_batch, is_none_of};
 
 use crate::fault::StackFault;
 use crate::replay;
@@ -75,11 +73,69 @@ impl Stacks {
     /// Empty stacks. It takes no memory.
     pub fn new(alloc: Global) -> Stacks
         ensures lists { result.lists ≡ no_lists }
+        ensures before { result.before ≡ None }
     {
         Stacks {
             earlier: Vec::new(alloc),
             undone: Vec::new(alloc),
             last: Last::Other,
         }
+    }
+
+    /// There is a batch to undo. It takes no memory.
+    pub fn can_undo(&self) -> bool
+        ensures { result ≡ not (is_none_of self.now.lists.earlier) }
+    {
+        !self.earlier.is_empty()
+    }
+
+    /// There is a batch to redo. It takes no memory.
+    pub fn can_redo(&self) -> bool
+        ensures { result ≡ not (is_none_of self.now.lists.undone) }
+    {
+        !self.undone.is_empty()
+    }
+
+    /// Makes room for at least one more batch. It answers `NoMemory` alone beside Ok, and then nothing has changed.
+    pub fn reserve(&mut self) -> Result<(), NoMemory>
+        ensures spare { OnOk result (1 ≤ self.new.spare) }
+        ensures lists { self.new.lists ≡ self.old.lists }
+        ensures before { self.new.before ≡ self.old.before }
+        ensures err { OnErr result (self.new ≡ self.old) }
+    {
+        self.earlier.reserve(1)?;
+        Ok(())
+    }
+
+    /// Puts the batch of a change last; then none is undone. It takes no memory. Its condition is that there is room for it.
+    pub fn push_spare(&mut self, batch: Batch)
+        requires { 1 ≤ self.old.spare }
+        ensures lists { self.new.lists ≡ with_batch batch self.old.lists }
+        ensures before { self.new.before ≡ None }
+    {
+        self.last = Last::Other;
+        self.undone.clear();
+        self.earlier.push_reserved(batch);
+    }
+
+    /// Puts the batch of a change last; then none is undone. It answers `NoMemory` alone beside Ok, and then nothing has changed.
+    pub fn push(&mut self, batch: Batch) -> Result<(), NoMemory>
+        ensures lists { OnOk result (self.new.lists ≡ with_batch batch self.old.lists) }
+        ensures before { OnOk result (self.new.before ≡ None) }
+        ensures err { OnErr result (self.new ≡ self.old) }
+    {
+        self.reserve()?;
+        self.push_spare(batch);
+        Ok(())
+    }
+
+    /// Empties both stacks. It takes no memory.
+    pub fn clear(&mut self)
+        ensures lists { self.new.lists ≡ no_lists }
+        ensures before { self.new.before ≡ None }
+    {
+        self.last = Last::Other;
+        self.undone.clear();
+        self.earlier.clear();
     }
 }
