@@ -14,11 +14,12 @@ pub record Lists : Type 0 where
   pub undone : List Undone
 
 -- the lists; the lists from before the last call, where that was an undo or a redo that came about; and how many further batches there is
--- memory for
+-- memory for, of those that stand and of those that were undone
 pub record Stacked : Type 0 where
   pub lists : Lists
   pub before : Option Lists
   pub spare : ℕ
+  pub undone_spare : ℕ
 
 -- a list is empty
 abbrev pub is_none_of : {A : Type 0} → List A → Bool

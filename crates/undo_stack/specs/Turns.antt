@@ -9,7 +9,7 @@ use Rattle.undo_stack.specs.declared.fault.StackFault.{StackFault}
 use Rattle.undo_stack.specs.declared.fault.StackFault.TheVariants.{Nothing, NoMemory}
 use Rattle.undo_stack.specs.Chains.{IsFrom, LedBack}
 use Rattle.undo_stack.specs.History.{History}
-use Rattle.undo_stack.specs.Stacked.{Undone, Lists, one_undone}
+use Rattle.undo_stack.specs.Stacked.{Undone, Lists, one_undone, one_redone}
 use Rattle.undo_stack.specs.Kept.{IsEarlier, IsUndone, Holds}
 
 -- a batch, reverted now, gives some document
@@ -70,3 +70,8 @@ IsRefused NoMemory list old new = (list ≢ []) × (new ≡ letting_go old)
 abbrev pub after_undo : Selection → List Batched → Lists → Lists
 after_undo selection [] lists = lists
 after_undo selection (batch ∷ rest) lists = one_undone batch rest selection lists
+
+-- the lists with the last batch that was undone made anew, as this batch
+abbrev pub after_redo : Batched → List Undone → Lists → Lists
+after_redo batch [] lists = lists
+after_redo batch (undone ∷ rest) lists = one_redone batch rest lists
