@@ -14,7 +14,7 @@ use Rattle.undo_stack.specs.History.{History, opened, pushed, replaced, back_to,
 use Rattle.undo_stack.specs.Stacked.{Undone, Lists, no_lists, with_batch, one_undone, one_redone}
 use Rattle.undo_stack.specs.Kept.{IsEarlier, AreEarlier, IsLike, IsUndone, AreUndone, Holds}
 use Rattle.undo_stack.specs.Replays.{ComesBack, ComesOn, IsAt}
-use Rattle.undo_stack.specs.Turns.{IsTakenBack, IsMadeAnew, Reaches, last_count, last_undone_count}
+use Rattle.undo_stack.specs.Turns.{IsTakenBack, IsMadeAnew, Reaches, after_undo, after_redo, last_count, last_undone_count}
 use Rattle.undo_stack.proofs.Moments.{from_self, from_on, back_on}
 
 -- the batches give the same documents at a moment that is like this one
@@ -188,3 +188,38 @@ made_anew undone batch old mid new on selection is sound = record {
     reached : (start last : Moment) (document : Document) → IsUndone start last undone document (present old) → IsFrom last (present new)
     reached start last document u =
         from_on last (present mid) (present new) (on.to start last (record { led = u.led; like = u.like; cells = u.cells })) (selected_from undone.selection mid new is)
+
+last-first : {A : Type 0} (front : List A) (last : A) → reverse (front ++ last ∷ []) ≡ last ∷ reverse front
+last-first front last = reverse-append front (last ∷ [])
+
+-- an undo, and a redo, as the lists have it
+pub undo_reaches : (history : History) (lists made : Lists) (batch : Batched) (rest : List Batched) (selection : Selection) (old new : Held) → lists.earlier ≡ batch ∷ rest → selection ≡ old.state.document.selection
+    → made ≡ after_undo selection lists.earlier lists → IsTakenBack batch old new → Holds history lists old → Reaches (undo history) made new
+undo_reaches history lists made batch rest selection old new is same then back holds =
+    subst (λ (ls : Lists). Reaches (undo history) ls new)
+    (sym (then ∙ (λ i. after_undo (same i) (is i) lists)))
+    (undo_holds history lists batch rest old new holds is back)
+
+pub redo_reaches : (history : History) (lists made : Lists) (undone : Undone) (rest : List Undone) (batch : Batched) (old new : Held) → lists.undone ≡ undone ∷ rest → made ≡ after_redo batch lists.undone lists → IsMadeAnew undone batch old new
+    → Holds history lists old → Reaches (redo history) made new
+redo_reaches history lists made undone rest batch old new is then on holds =
+    subst (λ (ls : Lists). Reaches (redo history) ls new)
+    (sym (then ∙ (λ i. after_redo batch (is i) lists)))
+    (redo_holds history lists undone rest batch old new holds is on)
+
+-- the last of a stack's batches is the first of the list
+pub is_first : {A : Type 0} (list items front : List A) (last : A) → reverse items ≡ list → items ≡ front ++ last ∷ [] → list ≡ last ∷ reverse front
+is_first list items front last whole is = sym whole ∙ ap reverse is ∙ last-first front last
+
+-- the marks, as the lists have it
+pub undo_mark : (lists : Lists) (batch : Batched) (rest : List Batched) (old new : Held) → lists.earlier ≡ batch ∷ rest → IsTakenBack batch old new → ((history : History) × Holds history lists old)
+    → new.mark + last_count lists.earlier ≡ old.mark
+undo_mark lists batch rest old new is back has =
+    let may = may_undo has.0 lists batch rest old has.1 is in
+    ap (λ batches. new.mark + last_count batches) is ∙ back_mark batch old new may.0 may.1 may.2 back
+
+pub redo_mark : (lists : Lists) (undone : Undone) (rest : List Undone) (batch : Batched) (old new : Held) → lists.undone ≡ undone ∷ rest → IsMadeAnew undone batch old new → ((history : History) × Holds history lists old)
+    → new.mark ≡ old.mark + last_undone_count lists.undone
+redo_mark lists undone rest batch old new is on has =
+    let may = may_redo has.0 lists undone rest old has.1 is in
+    on_mark undone batch old new may.0 may.1 may.2 may.3 on ∙ sym (ap (λ all. old.mark + last_undone_count all) is)
