@@ -163,7 +163,7 @@ on_mark undone batch old new start last document is on =
     omega (arith, a, b, c)
 
 -- another selection, and no more
-selected_from : (selection : Selection) (held new : Held) → new ≡ in_state (with_selection selection held.state) held → IsFrom (present held) (present new)
+pub selected_from : (selection : Selection) (held new : Held) → new ≡ in_state (with_selection selection held.state) held → IsFrom (present held) (present new)
 selected_from selection held new is = subst (λ (h : Held). IsFrom (present held) (present h)) (sym is) (record { reached = (refl, refl, refl, (λ n. refl, omega arith)); mark = refl })
 
 -- what is one document but for the selection, and has its selection, is that document

@@ -5,3 +5,4 @@ pub mod Chains
 pub mod Kept
 pub mod Replays
 pub mod Turns
+pub mod Events
