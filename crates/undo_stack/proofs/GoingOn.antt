@@ -41,7 +41,7 @@ pub record AreAlike (state other : State) : Type 0 where
 welcome-alike : (operation : Operation) (state other : State) → AreAlike state other → IsWelcome operation state → IsWelcome operation other
 welcome-alike operation state other alike welcome =
     let ids : ids_in state.document.items state.cells ≡ ids_in other.document.items other.cells =
-      (λ i. ids_of (sym alike.items i) ++ sym (same-ids state.cells other.cells alike.cells.0 alike.cells.1) i) in
+    (λ i. ids_of (sym alike.items i) ++ sym (same-ids state.cells other.cells alike.cells.0 alike.cells.1) i) in
     record {
       fresh = subst (λ ids. IsDistinct nat_eq (brought operation ++ ids)) ids welcome.fresh;
       known = welcome.known;
@@ -73,7 +73,7 @@ made-alike operation state other made other_made alike e f =
     let q = parts operation other other_made f in
     let there : after state.document.items other.cells operation ≡ Ok q.both = subst (λ (items : List Item). after items other.cells operation ≡ Ok q.both) alike.items q.after in
     let match = effect-same state.cells other.cells alike.cells.0 state.document.items p.both q.both operation
-      (after-effect state.document.items state.cells operation p.both p.after) (after-effect state.document.items other.cells operation q.both there) in
+    (after-effect state.document.items state.cells operation p.both p.after) (after-effect state.document.items other.cells operation q.both there) in
     record {
       items = sym (ap (λ (s : State). s.document.items) q.is) ∙ match.0 ∙ ap (λ (s : State). s.document.items) p.is;
       markers = sym (ap (λ (s : State). s.document.markers) q.is) ∙ ap (markers_after operation) alike.markers ∙ ap (λ (s : State). s.document.markers) p.is;
@@ -175,26 +175,31 @@ module _ (all rest left : List Done) (done : Done) (new_records : List Done) (ol
       → more ≡ new_records ++ made ∷ [] → new.kept ≡ now.kept → IsPartOn all left more old new
   goes_on new more made has e up leads named one kept = record {
     on = λ start last at. (let n = next-here start last at in
-    let s = stepped n.moment done n.next n.step in
-    let m = made-alike done.operation n.moment.state now.state s.made new.state n.alike s.made_is e in
-    (n.next, record {
-      led = n.led;
-      like = record {
-        items = m.items ∙ sym s.items;
-        markers = m.markers ∙ sym s.markers;
-        next_id = m.next_id ∙ sym s.next_id;
-        cells = λ k. m.cells k ∙ sym (s.cells.0 k);
-        mark = (let a = n.step.mark in let b = n.mark in omega (arith, a, b, up));
-      };
-      cells = (let a = n.cells in let b = m.long in omega (arith, a, b));
-    }));
+        let s = stepped n.moment done n.next n.step in
+        let m = made-alike done.operation n.moment.state now.state s.made new.state n.alike s.made_is e in (
+          n.next,
+          record {
+            led = n.led;
+            like = record {
+              items = m.items ∙ sym s.items;
+              markers = m.markers ∙ sym s.markers;
+              next_id = m.next_id ∙ sym s.next_id;
+              cells = λ k. m.cells k ∙ sym (s.cells.0 k);
+              mark = (let a = n.step.mark in let b = n.mark in omega (arith, a, b, up));
+            };
+            cells = (let a = n.cells in let b = m.long in omega (arith, a, b));
+          },
+        ));
     back =
-      subst (λ rs. LedBack (present old) rs (present new)) (sym (ap reverse one ∙ reverse-append new_records (made ∷ [])))
-      (present now, record {
-        welcome = subst (λ o. IsWelcome o now.state) (sym named) (may_apply has);
-        leads = at_moment now.state made new leads;
-        mark = up;
-      }, part.back);
+        subst (λ rs. LedBack (present old) rs (present new)) (sym (ap reverse one ∙ reverse-append new_records (made ∷ []))) (
+          present now,
+          record {
+            welcome = subst (λ o. IsWelcome o now.state) (sym named) (may_apply has);
+            leads = at_moment now.state made new leads;
+            mark = up;
+          },
+          part.back,
+        );
     kept = kept ∙ part.kept;
   }
 
@@ -205,17 +210,17 @@ no-records (done ∷ left) none = absurd (omega (arith, none))
 pub ends_on : (all left new_records : List Done) (old now : Held) → IsPartOn all left new_records old now → length left ≡ 0 → ComesOn all new_records old now
 ends_on all left new_records old now part none = record {
   to = λ start last at. (let here = part.on start last at in
-  let end : IsAt here.0 last [] now = subst (λ rs. IsAt here.0 last rs now) (no-records left none) here.1 in
-  let from = end.led in
-  record {
-    reached = (
-      end.like.items ∙ sym from.reached.0,
-      end.like.markers ∙ sym from.reached.1,
-      end.like.next_id ∙ sym from.reached.2,
-      ((λ n. end.like.cells n ∙ sym (from.reached.3.0 n)), end.cells),
-    );
-    mark = end.like.mark ∙ sym from.mark;
-  });
+      let end : IsAt here.0 last [] now = subst (λ rs. IsAt here.0 last rs now) (no-records left none) here.1 in
+      let from = end.led in
+      record {
+        reached = (
+          end.like.items ∙ sym from.reached.0,
+          end.like.markers ∙ sym from.reached.1,
+          end.like.next_id ∙ sym from.reached.2,
+          ((λ n. end.like.cells n ∙ sym (from.reached.3.0 n)), end.cells),
+        );
+        mark = end.like.mark ∙ sym from.mark;
+      });
   back = part.back;
 }
 

@@ -25,12 +25,16 @@ holds_pushed history batch turn made holds is =
     subst (λ lists. Holds (pushed made history) lists turn.new) (sym is.lists) (record {
       now = is.now;
       sound = is.sound;
-      earlier = (present turn.old, record {
-        same = holds.now;
-        sound = holds.sound;
-        selection = is.selection ∙ ap (λ (d : Document). d.selection) holds.now;
-        led = is.led;
-      }, holds.earlier);
+      earlier = (
+        present turn.old,
+        record {
+          same = holds.now;
+          sound = holds.sound;
+          selection = is.selection ∙ ap (λ (d : Document). d.selection) holds.now;
+          led = is.led;
+        },
+        holds.earlier,
+      );
       undone = tt;
     })
 

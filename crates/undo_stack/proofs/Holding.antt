@@ -40,15 +40,19 @@ undone_on [] [] now then from all = all
 undone_on [] (undone ∷ rest) now then from all = all
 undone_on (document ∷ documents) [] now then from all = all
 undone_on (document ∷ documents) (undone ∷ rest) now then from all =
-    let is = all.2 in
-    (all.0, all.1, record {
-      same = is.same;
-      sound = is.sound;
-      selection = is.selection;
-      led = is.led;
-      like = like_on all.0 now then is.like from;
-      cells = (let a = is.cells in let b = from.reached.3.1 in omega (arith, a, b));
-    }, all.3)
+    let is = all.2 in (
+      all.0,
+      all.1,
+      record {
+        same = is.same;
+        sound = is.sound;
+        selection = is.selection;
+        led = is.led;
+        like = like_on all.0 now then is.like from;
+        cells = (let a = is.cells in let b = from.reached.3.1 in omega (arith, a, b));
+      },
+      all.3,
+    )
 
 -- the way back, gone the other way
 record Turned (start last : Moment) (records : List Done) : Type 0 where
@@ -94,20 +98,25 @@ undo_holds history lists batch rest old new holds is back = go history.earlier r
           now = back.document all.0 document all.1;
           sound = back.sound;
           earlier = earlier_on before rest all.0 (present new) from all.2;
-          undone = (way.first, present old, record {
-            same = holds.now;
-            sound = holds.sound;
-            selection = ap (λ (d : Document). d.selection) holds.now;
-            led = way.led;
-            like = record {
-              items = from.reached.0 ∙ sym way.from.reached.0;
-              markers = from.reached.1 ∙ sym way.from.reached.1;
-              next_id = from.reached.2 ∙ sym way.from.reached.2;
-              cells = λ n. from.reached.3.0 n ∙ sym (way.from.reached.3.0 n);
-              mark = from.mark ∙ sym way.from.mark;
-            };
-            cells = back.cells;
-          }, holds.undone);
+          undone = (
+            way.first,
+            present old,
+            record {
+              same = holds.now;
+              sound = holds.sound;
+              selection = ap (λ (d : Document). d.selection) holds.now;
+              led = way.led;
+              like = record {
+                items = from.reached.0 ∙ sym way.from.reached.0;
+                markers = from.reached.1 ∙ sym way.from.reached.1;
+                next_id = from.reached.2 ∙ sym way.from.reached.2;
+                cells = λ n. from.reached.3.0 n ∙ sym (way.from.reached.3.0 n);
+                mark = from.mark ∙ sym way.from.mark;
+              };
+              cells = back.cells;
+            },
+            holds.undone,
+          );
         }
 
 -- a batch that was undone is made anew
@@ -120,12 +129,16 @@ redo_holds history lists undone rest batch old new holds is on = go history.undo
     go (document ∷ behind) all = record {
       now = on.document all.0 all.1 document all.2;
       sound = on.sound;
-      earlier = (present old, record {
-        same = holds.now;
-        sound = holds.sound;
-        selection = on.selection ∙ ap (λ (d : Document). d.selection) holds.now;
-        led = on.back;
-      }, holds.earlier);
+      earlier = (
+        present old,
+        record {
+          same = holds.now;
+          sound = holds.sound;
+          selection = on.selection ∙ ap (λ (d : Document). d.selection) holds.now;
+          led = on.back;
+        },
+        holds.earlier,
+      );
       undone = undone_on behind rest all.1 (present new) (on.from all.0 all.1 document all.2) all.3;
     }
 
@@ -165,6 +178,10 @@ on_mark undone batch old new start last document is on =
 -- another selection, and no more
 pub selected_from : (selection : Selection) (held new : Held) → new ≡ in_state (with_selection selection held.state) held → IsFrom (present held) (present new)
 selected_from selection held new is = subst (λ (h : Held). IsFrom (present held) (present h)) (sym is) (record { reached = (refl, refl, refl, (λ n. refl, omega arith)); mark = refl })
+
+pub selected_back : (start : Moment) (records : List Done) (selection : Selection) (old new : Held) → LedBack start (reverse records) (present old) → new ≡ in_state (with_selection selection old.state) old
+    → LedBack start (reverse records) (present new)
+selected_back start records selection old new led is = back_on start (reverse records) (present old) (present new) (selected_from selection old new is) led
 
 -- what is one document but for the selection, and has its selection, is that document
 is_whole : (moment now : Moment) (document : Document) → IsFrom moment now → moment.state.document ≡ document → now.state.document.selection ≡ document.selection → now.state.document ≡ document

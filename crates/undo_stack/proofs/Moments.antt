@@ -6,6 +6,8 @@ use Rattle.operation_definitions.specs.Operation.{Fault}
 use Rattle.document_definitions.specs.Document.{State, applied}
 use Rattle.model_doc.specs.Held.{Held, Moment, present, returned}
 use Rattle.model_doc.specs.Records.{Done, AreSame, IsReached, LedTo, Leads, IsAgain}
+use Rattle.model_doc.specs.Conditions.{IsWelcome}
+use Rattle.model_doc.proofs.GoingBack.{at_moment}
 use Rattle.undo_stack.specs.Chains.{IsFrom, IsStep, LedBack, LedOn}
 use Rattle.undo_stack.specs.Replays.{HasBack, ComesBack}
 
@@ -82,12 +84,12 @@ module _ (all left before : List Done) (done : Done) (old now : Held) (part : Is
       → IsPartBack all before old new
   goes_back new again mark long kept = record {
     back = λ start led. (let here = back-here start led in
-    let is = again here.0.state (at_held here.0.state done now here.1.leads) in
-    let same : IsFrom here.0 (present new) = record {
-      reached = (ap (λ d. d.items) is.0, ap (λ d. d.markers) is.0, ap (λ d. d.next_id) is.0, is.1);
-      mark = (let m = here.1.mark in omega (arith, m, mark));
-    } in
-    back_on start (reverse before) here.0 (present new) same here.2);
+        let is = again here.0.state (at_held here.0.state done now here.1.leads) in
+        let same : IsFrom here.0 (present new) = record {
+          reached = (ap (λ d. d.items) is.0, ap (λ d. d.markers) is.0, ap (λ d. d.next_id) is.0, is.1);
+          mark = (let m = here.1.mark in omega (arith, m, mark));
+        } in
+        back_on start (reverse before) here.0 (present new) same here.2);
     cells = (let c = part.cells in omega (arith, c, long));
     kept = kept ∙ part.kept;
   }
@@ -101,3 +103,10 @@ ends_back all left old now part none = record {
   from = λ start led. subst (λ rs. LedBack start rs (present now)) (ap reverse (no-records left none)) (part.back start led);
   cells = part.cells;
 }
+
+-- one record more
+pub led_more : (start : Moment) (records : List Done) (done : Done) (old new : Held) → LedBack start (reverse records) (present old) → IsWelcome done.operation old.state → Leads old.state done new
+    → new.mark ≡ old.mark + 1 → LedBack start (reverse (records ++ done ∷ [])) (present new)
+led_more start records done old new led welcome leads up =
+    subst (λ rs. LedBack start rs (present new)) (sym (reverse-append records (done ∷ [])))
+    (present old, record { welcome = welcome; leads = at_moment old.state done new leads; mark = up }, led)

@@ -6,3 +6,4 @@ pub mod Kept
 pub mod Replays
 pub mod Turns
 pub mod Events
+pub mod Sample

@@ -1,9 +1,13 @@
 //! Laws of the stacks. It has no program code: the clauses of each function state a law.
-ghost use Rattle.std.specs.Prelude.{◌≡◌, ◌≢◌, List, [], ◌∷◌, Some, None};
-ghost use Rattle.document_definitions.specs.Document.{Document};
+ghost use Rattle.std.specs.Prelude.{◌≡◌, ◌+◌, List, [], ◌∷◌, ◌++◌, reverse, Some, None};
+ghost use Rattle.document_definitions.specs.Document.{Document, with_selection};
+ghost use Rattle.document_definitions.specs.Selection.{Selection};
 ghost use Rattle.document_definitions.specs.Sound.{IsSound};
-ghost use Rattle.model_doc.specs.Held.{Held};
-ghost use Rattle.undo_stack.specs.History.{History, opened, pushed, replaced, back_to, on_to, undo, redo};
+ghost use Rattle.model_doc.specs.Conditions.{IsWelcome};
+ghost use Rattle.model_doc.specs.Held.{Held, Moment, present, in_state};
+ghost use Rattle.model_doc.specs.Records.{Done, Leads};
+ghost use Rattle.undo_stack.specs.Chains.{LedBack};
+ghost use Rattle.undo_stack.specs.History.{History, opened, pushed, replaced, back_to, undo, redo};
 ghost use Rattle.undo_stack.specs.Stacked.{Lists, no_lists};
 ghost use Rattle.undo_stack.specs.Kept.{Holds};
 ghost use Rattle.undo_stack.specs.Turns.{Reaches};
@@ -29,4 +33,16 @@ pub fn a_push_empties_the_undone()
     ensures none { (history : History) (document : Document) → redo (pushed document history) ≡ None }
     ensures back { (history : History) (document : Document) → undo (pushed document history) ≡ Some (back_to history.now history.earlier (pushed document history)) }
     ensures replaced { (history : History) (document : Document) → ((replaced document history).earlier ≡ history.earlier) × ((replaced document history).undone ≡ history.undone) }
+{}
+
+/// How the records of a batch lead back, which a push asks for: the document's own moment with no record; one record more, where the
+/// operation was welcome and the record leads; and any change of the selection between.
+#[tactic(auto, using(crate::proofs::Moments::from_self, crate::proofs::Moments::led_more))]
+pub fn records_lead_back()
+    ensures begun { (held : Held) → LedBack (present held) [] (present held) }
+    ensures more { (start : Moment) (records : List Done) (done : Done) (old new : Held)
+        → LedBack start (reverse records) (present old) → IsWelcome done.operation old.state → Leads old.state done new → new.mark ≡ old.mark + 1
+        → LedBack start (reverse (records ++ done ∷ [])) (present new) }
+    ensures selected { (start : Moment) (records : List Done) (selection : Selection) (old new : Held)
+        → LedBack start (reverse records) (present old) → new ≡ in_state (with_selection selection old.state) old → LedBack start (reverse records) (present new) }
 {}

@@ -6,6 +6,7 @@
 //! left.
 #![tactic(auto)]
 
+pub mod examples;
 pub mod fault;
 pub mod laws;
 mod replay;

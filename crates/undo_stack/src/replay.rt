@@ -68,10 +68,7 @@ fn again(document: &mut Document, done: &Record, batch: &mut Batch) -> Result<()
 
 /// Takes a whole batch back, and puts the selection from when it was begun in place. It answers the selection from before, or `NoMemory`
 /// alone; then some records may be taken back. What is kept stays kept.
-pub(crate) fn take_batch_back(
-    document: &mut Document,
-    batch: &Batch,
-) -> Result<Selection, NoMemory>
+pub(crate) fn take_batch_back(document: &mut Document, batch: &Batch) -> Result<Selection, NoMemory>
     requires { MayUndo batch.now document.old }
     ensures back { OnOk result (IsTakenBack batch.now document.old document.new) }
     ensures selection { IfOk result (λ selection. selection ≡ document.old.state.document.selection) }

@@ -65,10 +65,10 @@ impl Model for Stacks {
     ghost coded = { Prim.hlevel (codes, coded_item) };
 
     ghost view = { λ stacks. record {
-        lists = lists_of stacks.earlier.items stacks.undone.items;
-        before = lists_before stacks.last (lists_of stacks.earlier.items stacks.undone.items);
-        spare = vec_capacity stacks.earlier - vec_len stacks.earlier;
-        undone_spare = vec_capacity stacks.undone - vec_len stacks.undone;
+      lists = lists_of stacks.earlier.items stacks.undone.items;
+      before = lists_before stacks.last (lists_of stacks.earlier.items stacks.undone.items);
+      spare = vec_capacity stacks.earlier - vec_len stacks.earlier;
+      undone_spare = vec_capacity stacks.undone - vec_len stacks.undone;
     } };
 
     ghost invariant = { λ stacks. HasRoom stacks.last (vec_capacity stacks.earlier - vec_len stacks.earlier) (vec_capacity stacks.undone - vec_len stacks.undone) };
@@ -119,7 +119,7 @@ impl Stacks {
         ensures before { self.new.before ≡ None }
     {
         remember(&mut self.last, Last::Other);
-        self.undone.clear();
+        forget(&mut self.undone);
         self.earlier.push_reserved(batch);
     }
 
@@ -140,7 +140,7 @@ impl Stacks {
         ensures before { self.new.before ≡ None }
     {
         remember(&mut self.last, Last::Other);
-        self.undone.clear();
+        forget(&mut self.undone);
         self.earlier.clear();
     }
 
@@ -247,13 +247,13 @@ impl Stacks {
     }
 
     /// Puts this batch in place of the last one that was undone. There is room for it, and it takes no memory.
-    fn put_redone(&mut self, batch: Batch)
+    fn put_redone(&mut self, again: Batch)
         requires { 1 ≤ self.old.spare }
-        ensures lists { self.new.lists ≡ after_redo batch self.old.lists.undone self.old.lists }
+        ensures lists { self.new.lists ≡ after_redo again self.old.lists.undone self.old.lists }
         ensures before { self.old.lists.undone ≢ [] → self.new.before ≡ Some self.old.lists }
     {
         if let Some(undone) = self.undone.pop() {
-            self.earlier.push_reserved(batch);
+            self.earlier.push_reserved(again);
             remember(&mut self.last, Last::Redo(undone));
         }
     }
@@ -302,6 +302,15 @@ fn remember(last: &mut Last, now: Last)
     ensures { last.new ≡ now }
 {
     *last = now;
+}
+
+/// Drops all that were undone. It takes no memory.
+fn forget(undone: &mut Vec<Undone>)
+    ensures items { undone.new.items ≡ [] }
+    ensures len { vec_len undone.new ≡ 0 }
+    ensures room { vec_capacity undone.new ≡ vec_capacity undone.old }
+{
+    undone.clear();
 }
 
 /// Drops the last batch, if there is one. It takes no memory.

@@ -18,8 +18,8 @@ loop-done-preserved c =
     let made = c.in_ok-again.ensures in
     record {
       part = goes_on all (drop at all) (drop (at + 1) all) done c.loop-done.batch.records c.args.document.now c.loop-done.document c.loop-done.invariant.part
-        (one_left all at done (omega (arith, c.loop-done-test.true)) c.done-item.is)
-        c.again.new.document c.again.new.batch.records (done_again done c.loop-done.document c.again.new.document) c.requires made.ok made.mark made.leads refl made.record made.kept;
+          (one_left all at done (omega (arith, c.loop-done-test.true)) c.done-item.is)
+          c.again.new.document c.again.new.batch.records (done_again done c.loop-done.document c.again.new.document) c.requires made.ok made.mark made.leads refl made.record made.kept;
       selection = made.selection ∙ c.loop-done.invariant.selection;
     }
 
