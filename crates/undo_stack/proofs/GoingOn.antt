@@ -1,5 +1,6 @@
 -- Operations that are made anew.
-use Rattle.std.proofs.Common.{◌≡◌, ℕ, zero, suc, ◌+◌, ◌<◌, ◌≤◌, nat_eq, List, [], ◌∷◌, ◌++◌, length, get_or, reverse, drop, Result, Ok, Err, refl, sym, ap, ◌∙◌, subst, arith}
+use Rattle.std.proofs.Common.{◌≡◌, ℕ, zero, suc, ◌+◌, ◌<◌, ◌≤◌, nat_eq, List, [], ◌∷◌, ◌++◌, length, get_or, reverse, drop, Result, Ok, Err, refl, sym, ap, ◌∙◌}
+use Rattle.std.proofs.Common.{subst, arith}
 use Rattle.std.specs.List.{flat_map, IsDistinct}
 use Rattle.std.proofs.lemmas.List.{reverse-append}
 use Rattle.std.proofs.Math.Seq.{drop-cons}
@@ -25,7 +26,8 @@ no-ids : (cells : List (List Item)) → ((number : ℕ) → in_cell_at cells num
 no-ids [] h = refl
 no-ids (cell ∷ cells) h = (λ i. ids_of (h 0 i) ++ no-ids cells (λ n. h (suc n)) i)
 
-same-ids : (cells now : List (List Item)) → ((number : ℕ) → in_cell_at now number ≡ in_cell_at cells number) → length cells ≤ length now → flat_map ids_of now ≡ flat_map ids_of cells
+same-ids : (cells now : List (List Item)) → ((number : ℕ) → in_cell_at now number ≡ in_cell_at cells number) → length cells ≤ length now → flat_map ids_of now
+    ≡ flat_map ids_of cells
 same-ids [] now h long = no-ids now h
 same-ids (cell ∷ cells) [] h long = absurd (omega arith)
 same-ids (cell ∷ cells) (other ∷ now) h long = (λ i. ids_of (h 0 i) ++ same-ids cells now (λ n. h (suc n)) (omega arith) i)
@@ -67,17 +69,20 @@ record AreMadeAlike (other made other_made : State) : Type 0 where
   cells : (number : ℕ) → in_cell_at other_made.cells number ≡ in_cell_at made.cells number
   long : length other.cells ≤ length other_made.cells
 
-made-alike : (operation : Operation) (state other made other_made : State) → AreAlike state other → applied operation state ≡ Ok made → applied operation other ≡ Ok other_made → AreMadeAlike other made other_made
+made-alike : (operation : Operation) (state other made other_made : State) → AreAlike state other → applied operation state ≡ Ok made
+    → applied operation other ≡ Ok other_made → AreMadeAlike other made other_made
 made-alike operation state other made other_made alike e f =
     let p = parts operation state made e in
     let q = parts operation other other_made f in
-    let there : after state.document.items other.cells operation ≡ Ok q.both = subst (λ (items : List Item). after items other.cells operation ≡ Ok q.both) alike.items q.after in
+    let there : after state.document.items other.cells operation
+    ≡ Ok q.both = subst (λ (items : List Item). after items other.cells operation ≡ Ok q.both) alike.items q.after in
     let match = effect-same state.cells other.cells alike.cells.0 state.document.items p.both q.both operation
     (after-effect state.document.items state.cells operation p.both p.after) (after-effect state.document.items other.cells operation q.both there) in
     record {
       items = sym (ap (λ (s : State). s.document.items) q.is) ∙ match.0 ∙ ap (λ (s : State). s.document.items) p.is;
       markers = sym (ap (λ (s : State). s.document.markers) q.is) ∙ ap (markers_after operation) alike.markers ∙ ap (λ (s : State). s.document.markers) p.is;
-      next_id = sym (ap (λ (s : State). s.document.next_id) q.is) ∙ ap (λ next. raised next (brought operation)) alike.next_id ∙ ap (λ (s : State). s.document.next_id) p.is;
+      next_id = sym (ap (λ (s : State). s.document.next_id) q.is) ∙ ap (λ next. raised next (brought operation)) alike.next_id
+          ∙ ap (λ (s : State). s.document.next_id) p.is;
       cells = λ n. sym (ap (λ (s : State). in_cell_at s.cells n) q.is) ∙ match.1 n ∙ ap (λ (s : State). in_cell_at s.cells n) p.is;
       long = subst (λ (s : State). length other.cells ≤ length s.cells) q.is match.2;
     }
@@ -164,14 +169,16 @@ next-one here last done left now at =
       cells = room;
     }
 
-module _ (all rest left : List Done) (done : Done) (new_records : List Done) (old now : Held) (part : IsPartOn all rest new_records old now) (is : rest ≡ done ∷ left) where
+module _ (all rest left : List Done) (done : Done) (new_records : List Done) (old now : Held) (part : IsPartOn all rest new_records old now)
+    (is : rest ≡ done ∷ left) where
   next-here : (start last : Moment) → IsAt start last all old → IsNext last done left now
   next-here start last at = (let here = part.on start last at in next-one here.0 last done left now (subst (λ rs. IsAt here.0 last rs now) is here.1))
 
   pub may_apply : HasOn all old → IsWelcome done.operation now.state
   may_apply has = (let n = next-here has.0 has.1 has.2 in welcome-alike done.operation n.moment.state now.state n.alike n.step.welcome)
 
-  pub goes_on : (new : Held) (more : List Done) (made : Done) → HasOn all old → applied done.operation now.state ≡ Ok new.state → new.mark ≡ now.mark + 1 → Leads now.state made new → made.operation ≡ done.operation
+  pub goes_on : (new : Held) (more : List Done) (made : Done) → HasOn all old → applied done.operation now.state ≡ Ok new.state → new.mark ≡ now.mark + 1
+      → Leads now.state made new → made.operation ≡ done.operation
       → more ≡ new_records ++ made ∷ [] → new.kept ≡ now.kept → IsPartOn all left more old new
   goes_on new more made has e up leads named one kept = record {
     on = λ start last at. (let n = next-here start last at in

@@ -12,7 +12,8 @@ use Rattle.undo_stack.specs.History.{History, opened, pushed, replaced, undo, re
 use Rattle.undo_stack.specs.Stacked.{Lists, no_lists, with_batch}
 use Rattle.undo_stack.specs.Kept.{AreEarlier, Holds}
 use Rattle.undo_stack.specs.Turns.{Reaches}
-use Rattle.undo_stack.specs.Events.{Event, push, undone, redone, select, came_back, clear, selecting, after_event, after_events, Turn, turn_of, IsPush, IsUndo, IsRedo, IsSelect, IsComeBack, IsClear, Happens, AllHappen}
+use Rattle.undo_stack.specs.Events.{Event, push, undone, redone, select, came_back, clear, selecting, after_event, after_events, Turn, turn_of, IsPush, IsUndo}
+use Rattle.undo_stack.specs.Events.{IsRedo, IsSelect, IsComeBack, IsClear, Happens, AllHappen}
 use Rattle.undo_stack.proofs.Holding.{earlier_on, undone_on, selected_from}
 
 -- empty stacks are the history to which nothing led
@@ -20,7 +21,8 @@ pub holds_opened : (held : Held) → IsSound held.state → Holds (opened held.s
 holds_opened held sound = record { now = refl; sound = sound; earlier = tt; undone = tt }
 
 -- a push
-pub holds_pushed : (history : History) (batch : Batched) (turn : Turn) (made : Document) → Holds history turn.old_lists turn.old → IsPush batch made turn → Holds (pushed made history) turn.new_lists turn.new
+pub holds_pushed : (history : History) (batch : Batched) (turn : Turn) (made : Document) → Holds history turn.old_lists turn.old → IsPush batch made turn
+    → Holds (pushed made history) turn.new_lists turn.new
 holds_pushed history batch turn made holds is =
     subst (λ lists. Holds (pushed made history) lists turn.new) (sym is.lists) (record {
       now = is.now;
@@ -39,7 +41,8 @@ holds_pushed history batch turn made holds is =
     })
 
 -- what leaves the lists, and leads to a moment that is like the one before
-holds_on : (history : History) (lists : Lists) (old new : Held) (made : Document) → Holds history lists old → IsFrom (present old) (present new) → new.state.document ≡ made → IsSound new.state
+holds_on : (history : History) (lists : Lists) (old new : Held) (made : Document) → Holds history lists old → IsFrom (present old) (present new)
+    → new.state.document ≡ made → IsSound new.state
     → Holds (replaced made history) lists new
 holds_on history lists old new made holds from now sound = record {
   now = now;
@@ -68,7 +71,8 @@ holds_cleared history turn holds is =
     (subst (λ (held : Held). Holds (cleared history) no_lists held) (sym is.new) (record { now = holds.now; sound = holds.sound; earlier = tt; undone = tt }))
 
 -- one event
-happened : (event : Event) (history : History) (turn : Turn) → Holds history turn.old_lists turn.old → Happens event turn → Reaches (after_event event history) turn.new_lists turn.new
+happened : (event : Event) (history : History) (turn : Turn) → Holds history turn.old_lists turn.old → Happens event turn
+    → Reaches (after_event event history) turn.new_lists turn.new
 happened (push batch document) history turn holds is = holds_pushed history batch turn document holds is
 happened undone history turn holds is = is history holds
 happened redone history turn holds is = is history holds
@@ -77,13 +81,16 @@ happened came_back history turn holds is = holds_back history turn holds is
 happened clear history turn holds is = holds_cleared history turn holds is
 
 -- events, one after the other
-pub all_happened : (events : List Event) (history : History) (old_lists : Lists) (old : Held) (new_lists : Lists) (new : Held) → Holds history old_lists old → AllHappen events old_lists old new_lists new
+pub all_happened : (events : List Event) (history : History) (old_lists : Lists) (old : Held) (new_lists : Lists) (new : Held) → Holds history old_lists old
+    → AllHappen events old_lists old new_lists new
     → Reaches (after_events events history) new_lists new
-all_happened [] history old_lists old new_lists new holds is = subst (λ lists. Holds history lists new) (sym is.0) (subst (Holds history old_lists) (sym is.1) holds)
+all_happened [] history old_lists old new_lists new holds is = subst (λ lists. Holds history lists new) (sym is.0)
+    (subst (Holds history old_lists) (sym is.1) holds)
 all_happened (event ∷ events) history old_lists old new_lists new holds is =
     go (after_event event history) (happened event history (turn_of old_lists old is.0 is.1) holds is.2)
     (λ then now. all_happened events then is.0 is.1 new_lists new now is.3)
   where
-    go : (then : Option History) → Reaches then is.0 is.1 → ((then : History) → Holds then is.0 is.1 → Reaches (after_events events then) new_lists new) → Reaches (option_and_then (after_events events) then) new_lists new
+    go : (then : Option History) → Reaches then is.0 is.1 → ((then : History) → Holds then is.0 is.1 → Reaches (after_events events then) new_lists new)
+        → Reaches (option_and_then (after_events events) then) new_lists new
     go None now rest = absurd now
     go (Some then) now rest = rest then now

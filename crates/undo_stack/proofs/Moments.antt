@@ -80,7 +80,8 @@ module _ (all left before : List Done) (done : Done) (old now : Held) (part : Is
   pub may_revert : HasBack (reverse all) old → (from : State) × Leads from done now
   may_revert has = (let led = back-here has.0 has.1 in (led.0.state, at_held led.0.state done now led.1.leads))
 
-  pub goes_back : (new : Held) → ((from : State) → Leads from done now → IsAgain from new.state) → new.mark + 1 ≡ now.mark → length now.state.cells ≤ length new.state.cells → new.kept ≡ now.kept
+  pub goes_back : (new : Held) → ((from : State) → Leads from done now → IsAgain from new.state) → new.mark + 1 ≡ now.mark
+      → length now.state.cells ≤ length new.state.cells → new.kept ≡ now.kept
       → IsPartBack all before old new
   goes_back new again mark long kept = record {
     back = λ start led. (let here = back-here start led in
@@ -105,7 +106,8 @@ ends_back all left old now part none = record {
 }
 
 -- one record more
-pub led_more : (start : Moment) (records : List Done) (done : Done) (old new : Held) → LedBack start (reverse records) (present old) → IsWelcome done.operation old.state → Leads old.state done new
+pub led_more : (start : Moment) (records : List Done) (done : Done) (old new : Held) → LedBack start (reverse records) (present old)
+    → IsWelcome done.operation old.state → Leads old.state done new
     → new.mark ≡ old.mark + 1 → LedBack start (reverse (records ++ done ∷ [])) (present new)
 led_more start records done old new led welcome leads up =
     subst (λ rs. LedBack start rs (present new)) (sym (reverse-append records (done ∷ [])))

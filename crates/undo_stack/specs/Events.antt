@@ -97,4 +97,5 @@ turn_of old_lists old new_lists new = record { old_lists = old_lists; old = old;
 -- events, one after the other, took stacks and document from before to after
 abbrev pub AllHappen : List Event → Lists → Held → Lists → Held → Type 0
 AllHappen [] old_lists old new_lists new = (new_lists ≡ old_lists) × (new ≡ old)
-AllHappen (event ∷ events) old_lists old new_lists new = (lists : Lists) × (held : Held) × Happens event (turn_of old_lists old lists held) × AllHappen events lists held new_lists new
+AllHappen (event ∷ events) old_lists old new_lists new = (lists : Lists) × (held : Held) × Happens event (turn_of old_lists old lists held)
+    × AllHappen events lists held new_lists new

@@ -46,7 +46,8 @@ abbrev pub AreUndone : List Document → List Undone → Moment → Type 0
 AreUndone [] [] now = Unit {0}
 AreUndone [] (undone ∷ rest) now = ⊥
 AreUndone (document ∷ documents) [] now = ⊥
-AreUndone (document ∷ documents) (undone ∷ rest) now = (start : Moment) × (last : Moment) × IsUndone start last undone document now × AreUndone documents rest last
+AreUndone (document ∷ documents) (undone ∷ rest) now = (start : Moment) × (last : Moment) × IsUndone start last undone document now
+    × AreUndone documents rest last
 
 -- The stacks with a document are the history: the document is the present one, and the batches give the earlier and the undone ones.
 pub record Holds (history : History) (lists : Lists) (held : Held) : Type 0 where

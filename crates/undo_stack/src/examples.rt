@@ -34,8 +34,8 @@ pub fn overrides_undone()
 
 /// A push after an undo leaves nothing to redo, and a change of the selection after an undo leaves it.
 pub fn pushed_after_undo()
-    ensures pushed { after_events (push (some_batch whole.document) halves.document ∷ undone ∷ push (some_batch whole.document) shortened.document ∷ redone ∷ [])
-        (opened whole.document) ≡ None }
+    ensures pushed { after_events (push (some_batch whole.document) halves.document ∷ undone ∷ push (some_batch whole.document) shortened.document
+        ∷ redone ∷ []) (opened whole.document) ≡ None }
     ensures selected { after_events (push (some_batch whole.document) halves.document ∷ undone ∷ select overridden.document.selection ∷ redone ∷ [])
         (opened whole.document) ≡ Some (record { earlier = overridden.document ∷ []; now = halves.document; undone = [] }) }
     ensures nothing { after_events (undone ∷ []) (opened whole.document) ≡ None }

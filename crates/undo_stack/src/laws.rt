@@ -31,8 +31,10 @@ pub fn redo_takes_an_undo_back()
 /// After a push none is undone, and an undo gives the whole document from before it back. A document that is replaced leaves both lists.
 pub fn a_push_empties_the_undone()
     ensures none { (history : History) (document : Document) → redo (pushed document history) ≡ None }
-    ensures back { (history : History) (document : Document) → undo (pushed document history) ≡ Some (back_to history.now history.earlier (pushed document history)) }
-    ensures replaced { (history : History) (document : Document) → ((replaced document history).earlier ≡ history.earlier) × ((replaced document history).undone ≡ history.undone) }
+    ensures back { (history : History) (document : Document)
+        → undo (pushed document history) ≡ Some (back_to history.now history.earlier (pushed document history)) }
+    ensures earlier { (history : History) (document : Document) → (replaced document history).earlier ≡ history.earlier }
+    ensures undone { (history : History) (document : Document) → (replaced document history).undone ≡ history.undone }
 {}
 
 /// How the records of a batch lead back, which a push asks for: the document's own moment with no record; one record more, where the
@@ -44,5 +46,6 @@ pub fn records_lead_back()
         → LedBack start (reverse records) (present old) → IsWelcome done.operation old.state → Leads old.state done new → new.mark ≡ old.mark + 1
         → LedBack start (reverse (records ++ done ∷ [])) (present new) }
     ensures selected { (start : Moment) (records : List Done) (selection : Selection) (old new : Held)
-        → LedBack start (reverse records) (present old) → new ≡ in_state (with_selection selection old.state) old → LedBack start (reverse records) (present new) }
+        → LedBack start (reverse records) (present old) → new ≡ in_state (with_selection selection old.state) old
+        → LedBack start (reverse records) (present new) }
 {}

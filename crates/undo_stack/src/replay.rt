@@ -12,7 +12,7 @@ use model_doc::{Batch, Document, Record};
 use std::alloc::{AllocError, Global};
 
 /// Takes records back, the last first. It answers `NoMemory` alone beside Ok; then some of them may be taken back. What is kept stays kept.
-#[tactic(auto, using(crate::proofs::Moments::begins_back, crate::proofs::Moments::may_revert, crate::proofs::Moments::goes_back, crate::proofs::Moments::ends_back))]
+#[tactic(auto, using(crate::proofs::Moments::begins_back))]
 pub(crate) fn take_back(document: &mut Document, records: &[Record]) -> Result<(), NoMemory>
     requires { HasBack (reverse records.now) document.old }
     ensures back { OnOk result (ComesBack (reverse records.now) document.old document.new) }
@@ -28,7 +28,7 @@ pub(crate) fn take_back(document: &mut Document, records: &[Record]) -> Result<(
 
 /// Makes the operations of records anew, and answers their batch, which has the document's present selection. It answers `NoMemory` alone
 /// beside Ok; then some of them may be made. What is kept stays kept.
-#[tactic(auto, using(crate::proofs::GoingOn::begins_on, crate::proofs::GoingOn::may_apply, crate::proofs::GoingOn::goes_on, crate::proofs::GoingOn::ends_on))]
+#[tactic(auto, using(crate::proofs::GoingOn::begins_on))]
 pub(crate) fn make_anew(
     alloc: Global,
     document: &mut Document,

@@ -4,7 +4,8 @@ ghost use Rattle.undo_stack.specs.History.{History, undo, redo};
 ghost use Rattle.undo_stack.specs.Stacked.{no_lists, with_batch, is_none_of};
 ghost use Rattle.undo_stack.specs.Layout.{rest_of};
 ghost use Rattle.undo_stack.specs.Kept.{Holds};
-ghost use Rattle.undo_stack.specs.Turns.{MayUndo, IsTakenBack, MayRedo, IsMadeAnew, Reaches, HasHistory, IsReady, IsRefused, last_count, last_undone_count, after_undo, after_redo};
+ghost use Rattle.undo_stack.specs.Turns.{MayUndo, IsTakenBack, MayRedo, IsMadeAnew, HasHistory, Reaches, IsReady, IsRefused};
+ghost use Rattle.undo_stack.specs.Turns.{last_count, last_undone_count, after_undo, after_redo};
 
 use crate::fault::StackFault;
 use crate::replay::{make_batch_anew, take_batch_back};
@@ -71,7 +72,8 @@ impl Model for Stacks {
       undone_spare = vec_capacity stacks.undone - vec_len stacks.undone;
     } };
 
-    ghost invariant = { λ stacks. HasRoom stacks.last (vec_capacity stacks.earlier - vec_len stacks.earlier) (vec_capacity stacks.undone - vec_len stacks.undone) };
+    ghost invariant = { λ stacks. HasRoom stacks.last (vec_capacity stacks.earlier - vec_len stacks.earlier)
+        (vec_capacity stacks.undone - vec_len stacks.undone) };
 }
 
 impl Stacks {

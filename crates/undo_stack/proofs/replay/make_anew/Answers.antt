@@ -7,7 +7,8 @@ pub again-requires : goal.again-requires
 again-requires c =
     let all = c.args.records.now in
     let at = c.loop-done.done-index in
-    may_apply all (drop at all) (drop (at + 1) all) c.done-item.result c.loop-done.batch.records c.args.document.now c.loop-done.document c.loop-done.invariant.part
+    may_apply all (drop at all)
+    (drop (at + 1) all) c.done-item.result c.loop-done.batch.records c.args.document.now c.loop-done.document c.loop-done.invariant.part
     (one_left all at c.done-item.result (omega (arith, c.loop-done-test.true)) c.done-item.is) c.requires
 
 pub loop-done-preserved : goal.loop-done-preserved
@@ -19,7 +20,8 @@ loop-done-preserved c =
     record {
       part = goes_on all (drop at all) (drop (at + 1) all) done c.loop-done.batch.records c.args.document.now c.loop-done.document c.loop-done.invariant.part
           (one_left all at done (omega (arith, c.loop-done-test.true)) c.done-item.is)
-          c.again.new.document c.again.new.batch.records (done_again done c.loop-done.document c.again.new.document) c.requires made.ok made.mark made.leads refl made.record made.kept;
+          c.again.new.document c.again.new.batch.records
+          (done_again done c.loop-done.document c.again.new.document) c.requires made.ok made.mark made.leads refl made.record made.kept;
       selection = made.selection ∙ c.loop-done.invariant.selection;
     }
 

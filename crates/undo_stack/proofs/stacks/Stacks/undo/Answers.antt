@@ -16,7 +16,8 @@ returns-in-Ok-clause-history c = λ history holds.
     (let batch = c.in-Some.batch.now in
     let front = c.in-Some.field-0-1.now in
     let lists = c.args.self.now.lists in
-    undo_reaches history lists c.put_undone.new.self.lists batch (reverse front) c.args.document.now.state.document.selection c.args.document.now c.take_back_into.new.document
+    undo_reaches history lists c.put_undone.new.self.lists batch
+    (reverse front) c.args.document.now.state.document.selection c.args.document.now c.take_back_into.new.document
     (is_first lists.earlier c.self.inside.earlier.items front batch (ap (λ (stacks : Stacked). stacks.lists.earlier) c.self.view_is) (search rules))
     refl (search rules) c.in-Ok.ensures.back holds)
 
