@@ -1,5 +1,5 @@
 -- Operations that are made anew.
-use Rattle.std.proofs.Common.{◌≡◌, ℕ, zero, suc, ◌+◌, ◌<◌, ◌≤◌, nat_eq, List, [], ◌∷◌, ◌++◌, length, get_or, reverse, drop, Result, Ok, Err, refl, sym, ap, ◌∙◌}
+use Rattle.std.proofs.Common.{◌≡◌, ℕ, suc, ◌+◌, ◌<◌, ◌≤◌, nat_eq, List, [], ◌∷◌, ◌++◌, length, get_or, reverse, drop, Result, Ok, Err, refl, sym, ap, ◌∙◌}
 use Rattle.std.proofs.Common.{subst, arith}
 use Rattle.std.specs.List.{flat_map, IsDistinct}
 use Rattle.std.proofs.lemmas.List.{reverse-append}
@@ -12,12 +12,11 @@ use Rattle.operation_definitions.proofs.Steps.{step-ok}
 use Rattle.document_definitions.specs.Document.{State, ids_of, brought, raised, markers_after, changed, applied}
 use Rattle.document_definitions.specs.Sound.{ids_in, IsMarkerIn}
 use Rattle.model_doc.specs.Conditions.{IsWelcome}
-use Rattle.model_doc.specs.Held.{Held, Moment, present, returned}
-use Rattle.model_doc.specs.Records.{Done, done_on, AreSame, LedTo, Leads}
+use Rattle.model_doc.specs.Held.{Held, Moment, present}
+use Rattle.model_doc.specs.Records.{Done, AreSame, LedTo, Leads}
 use Rattle.model_doc.proofs.SameCells.{effect-same}
 use Rattle.model_doc.proofs.GoingBack.{at_moment}
-use Rattle.undo_stack.specs.Chains.{IsFrom, IsStep, LedBack, LedOn}
-use Rattle.undo_stack.specs.Kept.{IsLike}
+use Rattle.undo_stack.specs.Chains.{IsStep, LedBack, LedOn}
 use Rattle.undo_stack.specs.Replays.{IsAt, HasOn, ComesOn}
 use Rattle.undo_stack.proofs.Moments.{from_self}
 

@@ -1,19 +1,18 @@
 -- The stacks with their document are the history, event after event.
-use Rattle.std.proofs.Common.{◌≡◌, List, [], ◌∷◌, reverse, Option, Some, None, refl, sym, ap, ◌∙◌, subst, arith}
+use Rattle.std.proofs.Common.{◌≡◌, List, [], ◌∷◌, Option, Some, None, refl, sym, ap, ◌∙◌, subst}
 use Rattle.std.specs.Prelude.{option_and_then}
-use Rattle.document_definitions.specs.Document.{Document, with_selection}
+use Rattle.document_definitions.specs.Document.{Document}
 use Rattle.document_definitions.specs.Selection.{Selection}
 use Rattle.document_definitions.specs.Sound.{IsSound}
 use Rattle.model_doc.specs.Batched.{Batched}
-use Rattle.model_doc.specs.Held.{Held, Moment, present, in_state}
-use Rattle.model_doc.specs.Records.{IsAgain}
-use Rattle.undo_stack.specs.Chains.{IsFrom, LedBack}
-use Rattle.undo_stack.specs.History.{History, opened, pushed, replaced, undo, redo, cleared}
-use Rattle.undo_stack.specs.Stacked.{Lists, no_lists, with_batch}
-use Rattle.undo_stack.specs.Kept.{AreEarlier, Holds}
+use Rattle.model_doc.specs.Held.{Held, present}
+use Rattle.undo_stack.specs.Chains.{IsFrom}
+use Rattle.undo_stack.specs.History.{History, opened, pushed, replaced, cleared}
+use Rattle.undo_stack.specs.Stacked.{Lists, no_lists}
+use Rattle.undo_stack.specs.Kept.{Holds}
 use Rattle.undo_stack.specs.Turns.{Reaches}
-use Rattle.undo_stack.specs.Events.{Event, push, undone, redone, select, came_back, clear, selecting, after_event, after_events, Turn, turn_of, IsPush, IsUndo}
-use Rattle.undo_stack.specs.Events.{IsRedo, IsSelect, IsComeBack, IsClear, Happens, AllHappen}
+use Rattle.undo_stack.specs.Events.{Event, push, undone, redone, select, came_back, clear, selecting, after_event, after_events, Turn, turn_of, IsPush}
+use Rattle.undo_stack.specs.Events.{IsSelect, IsComeBack, IsClear, Happens, AllHappen}
 use Rattle.undo_stack.proofs.Holding.{earlier_on, undone_on, selected_from}
 
 -- empty stacks are the history to which nothing led

@@ -1,20 +1,18 @@
 -- What holds of the stacks with their document after a call.
-use Rattle.std.proofs.Common.{◌≡◌, ◌≢◌, ℕ, ◌+◌, ◌≤◌, List, [], ◌∷◌, ◌++◌, length, reverse, Option, Some, None, refl, sym, ap, ◌∙◌, subst, arith, append_assoc}
+use Rattle.std.proofs.Common.{◌≡◌, ◌+◌, List, [], ◌∷◌, ◌++◌, length, reverse, refl, sym, ap, ◌∙◌, subst, arith, append_assoc}
 use Rattle.std.proofs.Common.{append-nil}
 use Rattle.std.proofs.lemmas.List.{reverse-append, reverse-reverse, length-reverse}
-use Rattle.item_definitions.specs.Children.{child_count}
-use Rattle.item_definitions.specs.Position.{IsRange}
 use Rattle.document_definitions.specs.Document.{Document, with_selection}
 use Rattle.document_definitions.specs.Selection.{Selection}
 use Rattle.document_definitions.specs.Sound.{IsSound}
 use Rattle.model_doc.specs.Batched.{Batched}
 use Rattle.model_doc.specs.Held.{Held, Moment, present, in_state}
-use Rattle.model_doc.specs.Records.{Done, IsAgain}
-use Rattle.undo_stack.specs.Chains.{IsFrom, IsStep, LedBack, LedOn}
-use Rattle.undo_stack.specs.History.{History, opened, pushed, replaced, back_to, on_to, undo, redo}
-use Rattle.undo_stack.specs.Stacked.{Undone, Lists, no_lists, with_batch, one_undone, one_redone}
+use Rattle.model_doc.specs.Records.{Done}
+use Rattle.undo_stack.specs.Chains.{IsFrom, LedBack, LedOn}
+use Rattle.undo_stack.specs.History.{History, undo, redo}
+use Rattle.undo_stack.specs.Stacked.{Undone, Lists, one_undone, one_redone}
 use Rattle.undo_stack.specs.Kept.{IsEarlier, AreEarlier, IsLike, IsUndone, AreUndone, Holds}
-use Rattle.undo_stack.specs.Replays.{ComesBack, ComesOn, IsAt}
+use Rattle.undo_stack.specs.Replays.{ComesOn}
 use Rattle.undo_stack.specs.Turns.{IsTakenBack, IsMadeAnew, Reaches, after_undo, after_redo, last_count, last_undone_count}
 use Rattle.undo_stack.proofs.Moments.{from_self, from_on, back_on}
 

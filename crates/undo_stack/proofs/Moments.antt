@@ -1,5 +1,5 @@
 -- Moments that are alike, and records that are taken back between them.
-use Rattle.std.proofs.Common.{◌≡◌, ℕ, ◌+◌, ◌≤◌, List, [], ◌∷◌, ◌++◌, length, reverse, Result, Ok, Err, refl, sym, ap, ◌∙◌, subst, arith}
+use Rattle.std.proofs.Common.{◌≡◌, ◌+◌, ◌≤◌, List, [], ◌∷◌, ◌++◌, length, reverse, Result, Ok, Err, refl, sym, ap, ◌∙◌, subst, arith}
 use Rattle.std.proofs.lemmas.List.{reverse-append}
 use Rattle.item_definitions.specs.Item.{Item}
 use Rattle.operation_definitions.specs.Operation.{Fault}
@@ -8,7 +8,7 @@ use Rattle.model_doc.specs.Held.{Held, Moment, present, returned}
 use Rattle.model_doc.specs.Records.{Done, AreSame, IsReached, LedTo, Leads, IsAgain}
 use Rattle.model_doc.specs.Conditions.{IsWelcome}
 use Rattle.model_doc.proofs.GoingBack.{at_moment}
-use Rattle.undo_stack.specs.Chains.{IsFrom, IsStep, LedBack, LedOn}
+use Rattle.undo_stack.specs.Chains.{IsFrom, IsStep, LedBack}
 use Rattle.undo_stack.specs.Replays.{HasBack, ComesBack}
 
 cells_on : (a b c : List (List Item)) → AreSame a b → AreSame b c → AreSame a c

@@ -1,11 +1,11 @@
 -- The batches of the stacks as the earlier and the undone documents.
 use Rattle.std.specs.Prelude.{◌≡◌, ℕ, ◌≤◌, List, [], ◌∷◌, length, reverse}
 use Rattle.operation_definitions.specs.After.{in_cell_at}
-use Rattle.document_definitions.specs.Document.{Document, State}
+use Rattle.document_definitions.specs.Document.{Document}
 use Rattle.document_definitions.specs.Sound.{IsSound}
 use Rattle.model_doc.specs.Batched.{Batched}
 use Rattle.model_doc.specs.Held.{Held, Moment, present}
-use Rattle.undo_stack.specs.Chains.{IsFrom, LedBack, LedOn}
+use Rattle.undo_stack.specs.Chains.{LedBack, LedOn}
 use Rattle.undo_stack.specs.History.{History}
 use Rattle.undo_stack.specs.Stacked.{Undone, Lists}
 

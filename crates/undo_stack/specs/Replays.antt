@@ -1,6 +1,5 @@
 -- What taking records back, and making them anew, does to a document.
-use Rattle.std.specs.Prelude.{◌≡◌, ◌+◌, ◌≤◌, List, [], ◌∷◌, length, reverse}
-use Rattle.operation_definitions.specs.Operation.{Operation}
+use Rattle.std.specs.Prelude.{◌+◌, ◌≤◌, List, length, reverse}
 use Rattle.model_doc.specs.Held.{Held, Moment, present}
 use Rattle.model_doc.specs.Records.{Done, done_on}
 use Rattle.undo_stack.specs.Chains.{IsFrom, LedBack, LedOn}

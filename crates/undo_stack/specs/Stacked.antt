@@ -1,5 +1,5 @@
 -- What is seen of the stacks.
-use Rattle.std.specs.Prelude.{ℕ, Bool, true, false, List, [], ◌∷◌, Option, Some, None}
+use Rattle.std.specs.Prelude.{ℕ, Bool, true, false, List, [], ◌∷◌, Option}
 use Rattle.document_definitions.specs.Selection.{Selection}
 use Rattle.model_doc.specs.Batched.{Batched}
 

@@ -1,4 +1,4 @@
-use Rattle.std.proofs.Common.{refl, ◌∙◌, arith, drop, ◌+◌, length, length-drop}
+use Rattle.std.proofs.Common.{refl, ◌∙◌, arith, drop, ◌+◌, length-drop}
 use Rattle.undo_stack.specs.Replays.{done_again}
 use Rattle.undo_stack.proofs.GoingOn.{may_apply, goes_on, ends_on, one_left}
 use Rattle.undo_stack.proofs.replay.make_anew.Goals as goal
