@@ -30,10 +30,12 @@ back_to document before history = record { earlier = before; now = document; und
 abbrev pub on_to : Document → List Document → History → History
 on_to document behind history = record { earlier = history.now ∷ history.earlier; now = document; undone = behind }
 
+-- back to the first of some earlier documents, if there is one
 abbrev back_from : List Document → History → Option History
 back_from [] history = None
 back_from (document ∷ before) history = Some (back_to document before history)
 
+-- on to the first of some undone documents, if there is one
 abbrev on_from : List Document → History → Option History
 on_from [] history = None
 on_from (document ∷ behind) history = Some (on_to document behind history)

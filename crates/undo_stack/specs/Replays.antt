@@ -14,12 +14,14 @@ pub record ComesBack (records : List Done) (old new : Held) : Type 0 where
   pub from : (start : Moment) → LedBack start records (present old) → IsFrom start (present new)
   pub cells : length old.state.cells ≤ length new.state.cells
 
--- the records lead on from the document to some moment, but for the selection and the number of cells
+-- the records lead on from one moment to another one, and the document is as it was at the first, but for the selection and for cells that
+-- are empty; it has no fewer cells than there were at the last
 pub record IsAt (start last : Moment) (records : List Done) (held : Held) : Type 0 where
   pub led : LedOn start records last
   pub like : IsLike start (present held)
   pub cells : length last.state.cells ≤ length held.state.cells
 
+-- the records lead on from the document to some moment
 abbrev pub HasOn : List Done → Held → Type 0
 HasOn records held = (start : Moment) × (last : Moment) × IsAt start last records held
 
