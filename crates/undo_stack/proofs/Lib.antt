@@ -1,0 +1,4 @@
+pub mod Moments
+pub mod GoingOn
+pub mod Holding
+pub mod Happening
