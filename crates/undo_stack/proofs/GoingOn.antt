@@ -11,7 +11,7 @@ use Rattle.operation_definitions.proofs.Simple.{State as Both, after-effect}
 use Rattle.operation_definitions.proofs.Steps.{step-ok}
 use Rattle.document_definitions.specs.Document.{State, ids_of, brought, raised, markers_after, changed, applied}
 use Rattle.document_definitions.specs.Sound.{ids_in, IsMarkerIn}
-use Rattle.model_doc.specs.Conditions.{IsWelcome}
+use Rattle.document_definitions.specs.Sound.{IsWelcome}
 use Rattle.model_doc.specs.Held.{Held, Moment, present}
 use Rattle.model_doc.specs.Records.{Done, AreSame, LedTo, Leads}
 use Rattle.model_doc.proofs.SameCells.{effect-same}

@@ -6,7 +6,7 @@ use Rattle.operation_definitions.specs.Operation.{Fault}
 use Rattle.document_definitions.specs.Document.{State, applied}
 use Rattle.model_doc.specs.Held.{Held, Moment, present, returned}
 use Rattle.model_doc.specs.Records.{Done, AreSame, IsReached, LedTo, Leads, IsAgain}
-use Rattle.model_doc.specs.Conditions.{IsWelcome}
+use Rattle.document_definitions.specs.Sound.{IsWelcome}
 use Rattle.model_doc.proofs.GoingBack.{at_moment}
 use Rattle.undo_stack.specs.Chains.{IsFrom, IsStep, LedBack}
 use Rattle.undo_stack.specs.Replays.{HasBack, ComesBack}

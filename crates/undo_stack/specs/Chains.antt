@@ -1,6 +1,6 @@
 -- The records of a batch, as the way from one moment of a document to a later one.
 use Rattle.std.specs.Prelude.{◌≡◌, ◌+◌, List, [], ◌∷◌}
-use Rattle.model_doc.specs.Conditions.{IsWelcome}
+use Rattle.document_definitions.specs.Sound.{IsWelcome}
 use Rattle.model_doc.specs.Held.{Moment, returned}
 use Rattle.model_doc.specs.Records.{Done, IsReached, Leads}
 

@@ -3,7 +3,7 @@ ghost use Rattle.std.specs.Prelude.{◌≡◌, ◌+◌, List, [], ◌∷◌, ◌
 ghost use Rattle.document_definitions.specs.Document.{Document, with_selection};
 ghost use Rattle.document_definitions.specs.Selection.{Selection};
 ghost use Rattle.document_definitions.specs.Sound.{IsSound};
-ghost use Rattle.model_doc.specs.Conditions.{IsWelcome};
+ghost use Rattle.document_definitions.specs.Sound.{IsWelcome};
 ghost use Rattle.model_doc.specs.Held.{Held, Moment, present, in_state};
 ghost use Rattle.model_doc.specs.Records.{Done, Leads};
 ghost use Rattle.undo_stack.specs.Chains.{LedBack};

@@ -1,7 +1,7 @@
 //! A batch taken back, and made anew.
 ghost use Rattle.std.specs.Prelude.{◌≡◌, ◌+◌, [], ◌∷◌, ◌++◌, reverse, Ok, IfOk, OnOk};
 ghost use Rattle.document_definitions.specs.Document.{applied};
-ghost use Rattle.model_doc.specs.Conditions.{IsWelcome};
+ghost use Rattle.document_definitions.specs.Sound.{IsWelcome};
 ghost use Rattle.model_doc.specs.Records.{Leads};
 ghost use Rattle.undo_stack.specs.Turns.{MayUndo, IsTakenBack, MayRedo, IsMadeAnew};
 ghost use Rattle.undo_stack.specs.Replays.{HasBack, ComesBack, HasOn, ComesOn, done_again};
