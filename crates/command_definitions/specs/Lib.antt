@@ -1,0 +1,10 @@
+pub mod Places
+pub mod Fitting
+pub mod Clusters
+pub mod Deleting
+pub mod Blocks
+pub mod Placing
+pub mod Table
+pub mod GivenBack
+pub mod Finding
+pub mod Sample
