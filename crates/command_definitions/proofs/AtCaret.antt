@@ -5,7 +5,7 @@ use Rattle.std.proofs.lemmas.Bool.Decides.{nat_tests}
 use Rattle.std.specs.Option.{option_map_or}
 use Rattle.item_definitions.specs.Item.{Item, Attributes, character, element, none, inner}
 use Rattle.item_definitions.specs.Children.{parent_of, offset_of, children_at, item_at, at}
-use Rattle.item_definitions.specs.Position.{behind, not_after}
+use Rattle.item_definitions.specs.Position.{behind, not_after, path_before}
 use Rattle.item_definitions.proofs.Order.{not_after-cons, not_after-parent, not_after-itself, behind-push}
 use Rattle.item_definitions.proofs.Paths.{parent_of-push, offset_of-push, path-joined}
 use Rattle.operation_definitions.specs.Operation.{Fault, insert, no_place}
@@ -17,7 +17,7 @@ use Rattle.operation_definitions.proofs.Levels.{replaced}
 use Rattle.model_tree.proofs.Shown.{item_last}
 use Rattle.document_definitions.specs.Document.{State}
 use Rattle.edit_definitions.specs.declared.edit.Edit.TheVariants.{InsertElement}
-use Rattle.edit_definitions.specs.Places.{is_there, is_range, is_element, path_before}
+use Rattle.edit_definitions.specs.Places.{is_there, is_range, is_element}
 use Rattle.edit_definitions.specs.Planned.{name_of}
 use Rattle.edit_definitions.specs.Performed.{performed, all_performed}
 use Rattle.edit_definitions.proofs.Reached.{has-room}

@@ -6,7 +6,7 @@ use Rattle.std.specs.Option.{option_or}
 use Rattle.std.specs.Str.{all_scalars}
 use Rattle.item_definitions.specs.Item.{Item, Attributes, character, element}
 use Rattle.item_definitions.specs.Children.{parent_of, offset_of}
-use Rattle.item_definitions.specs.Position.{behind}
+use Rattle.item_definitions.specs.Position.{behind, path_before}
 use Rattle.item_definitions.specs.Shift.{forward}
 use Rattle.item_definitions.proofs.Paths.{path-joined}
 use Rattle.schema_definitions.specs.Allowed.{Rules, is_block, is_limit, is_object}
@@ -15,7 +15,7 @@ use Rattle.document_definitions.specs.Selection.{before}
 use Rattle.document_definitions.specs.Document.{State}
 use Rattle.edit_definitions.specs.declared.edit.Edit.{Edit}
 use Rattle.edit_definitions.specs.declared.edit.Edit.TheVariants.{Remove, Merge}
-use Rattle.edit_definitions.specs.Places.{is_there, is_range, is_element, path_before}
+use Rattle.edit_definitions.specs.Places.{is_there, is_range, is_element}
 use Rattle.edit_definitions.specs.Performed.{all_performed}
 use Rattle.edit_definitions.proofs.Reached.{has-room}
 use Rattle.command_definitions.specs.Places.{is_object_at, is_plain_block_at, is_before_it, backward}

@@ -7,7 +7,7 @@ use Rattle.ck_base.specs.declared.faults.EditFault.{EditFault}
 use Rattle.ck_base.specs.declared.faults.EditFault.TheVariants.{BadPosition, BadRange, BadTarget}
 use Rattle.item_definitions.specs.Item.{Item, inner}
 use Rattle.item_definitions.specs.Children.{parent_of, offset_of, children_at, child_count}
-use Rattle.item_definitions.specs.Position.{between, behind, not_after, IsRange}
+use Rattle.item_definitions.specs.Position.{between, behind, not_after, IsRange, path_before}
 use Rattle.item_definitions.specs.FlatParts.{flat_parts}
 use Rattle.item_definitions.specs.Shift.{within, rule_merge, rest_behind, carry_range}
 use Rattle.item_definitions.specs.Shift as shifts
@@ -21,7 +21,7 @@ use Rattle.document_definitions.specs.Document.{State, all_applied}
 use Rattle.document_definitions.proofs.Ranges.{keeps_ranges}
 use Rattle.edit_definitions.specs.declared.edit.Edit.{Edit}
 use Rattle.edit_definitions.specs.declared.edit.Edit.TheVariants.{Remove, Merge}
-use Rattle.edit_definitions.specs.Places.{is_there, is_range, is_element, are_in_one, path_before}
+use Rattle.edit_definitions.specs.Places.{is_there, is_range, is_element, are_in_one}
 use Rattle.edit_definitions.specs.Planned.{◌>>=◌, check, removals, operations_of}
 use Rattle.edit_definitions.specs.Performed.{as_step, selecting, performed, all_performed}
 use Rattle.edit_definitions.proofs.Reached.{has-room, entered}

@@ -7,7 +7,7 @@ use Rattle.ck_base.specs.declared.faults.EditFault.{EditFault}
 use Rattle.ck_base.specs.declared.faults.EditFault.TheVariants.{NotRegistered, BadPosition, BadRange, BadTarget, IdsSpent}
 use Rattle.item_definitions.specs.Item.{Attributes, character}
 use Rattle.item_definitions.specs.Children.{offset_of, child_count, item_at}
-use Rattle.item_definitions.specs.Position.{between, behind}
+use Rattle.item_definitions.specs.Position.{between, behind, path_before}
 use Rattle.item_definitions.specs.FlatParts.{flat_parts}
 use Rattle.operation_definitions.specs.Operation.{Fault, no_place, not_flat, into_itself, old_differs, not_neighbours, cell_state, too_large, too_deep}
 use Rattle.operation_definitions.specs.Operation.{Operation, in_tree, in_cell, fresh, move, split, merge}
@@ -18,7 +18,7 @@ use Rattle.edit_definitions.specs.declared.edit.Edit.TheVariants.{InsertText, In
 use Rattle.edit_definitions.specs.declared.edit.Edit.TheVariants.{Wrap, Unwrap, Select}
 use Rattle.edit_definitions.specs.declared.edit.Target.{Target}
 use Rattle.edit_definitions.specs.declared.edit.Target.TheVariants.{Range as InRange, Element as OfElement}
-use Rattle.edit_definitions.specs.Places.{is_there, is_range, are_in_one, is_element, path_before, is_known}
+use Rattle.edit_definitions.specs.Places.{is_there, is_range, are_in_one, is_element, is_known}
 use Rattle.edit_definitions.specs.Runs.{give_in}
 use Rattle.edit_definitions.specs.Planned.{◌>>=◌, check, ids_left, count_in, insertion, empty_element, removals, given_to, name_of, renaming, operations_of}
 use Rattle.edit_definitions.specs.Performed.{as_step, selecting, performed, all_performed, document_made}

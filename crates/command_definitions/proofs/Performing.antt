@@ -4,13 +4,13 @@ use Rattle.ck_base.specs.declared.faults.EditFault.{EditFault}
 use Rattle.ck_base.specs.declared.faults.EditFault.TheVariants.{NotRegistered, BadPosition, BadRange, BadTarget}
 use Rattle.item_definitions.specs.Item.{Attributes, element, none}
 use Rattle.item_definitions.specs.Children.{offset_of, child_count}
-use Rattle.item_definitions.specs.Position.{between}
+use Rattle.item_definitions.specs.Position.{between, path_before}
 use Rattle.operation_definitions.specs.Operation.{Fault, Operation, fresh, insert, split, merge}
 use Rattle.document_definitions.specs.Selection.{selected}
 use Rattle.document_definitions.specs.Document.{Document, State, with_selection, all_applied}
 use Rattle.edit_definitions.specs.declared.edit.Edit.{Edit}
 use Rattle.edit_definitions.specs.declared.edit.Edit.TheVariants.{InsertElement, Split, Merge, Select}
-use Rattle.edit_definitions.specs.Places.{is_known, is_there, is_range, is_element, path_before}
+use Rattle.edit_definitions.specs.Places.{is_known, is_there, is_range, is_element}
 use Rattle.edit_definitions.specs.Planned.{◌>>=◌, check, ids_left, operations_of}
 use Rattle.edit_definitions.specs.Performed.{as_step, selecting, performed, all_performed, apart, document_made, edits_made}
 

@@ -7,7 +7,7 @@ use Rattle.std.specs.Option.{option_map_or}
 use Rattle.std.specs.Cmp.Lexicographic.{pointwise}
 use Rattle.item_definitions.specs.Item.{Item, character, element, inner, with_inner}
 use Rattle.item_definitions.specs.Children.{parent_of, offset_of, children_at, child_count, item_at, at}
-use Rattle.item_definitions.specs.Position.{Range, between, behind, not_after}
+use Rattle.item_definitions.specs.Position.{Range, between, behind, not_after, path_before}
 use Rattle.item_definitions.specs.Shift.{Stick, to_next, to_previous, rest_behind, rule_merge, carry, carry_range}
 use Rattle.item_definitions.specs.Shift as shifts
 use Rattle.item_definitions.proofs.Order.{not_after-itself}
@@ -28,7 +28,7 @@ use Rattle.document_definitions.specs.Document.{Document, State, with_selection,
 use Rattle.document_definitions.specs.Sound.{IsSound}
 use Rattle.edit_definitions.specs.declared.edit.Edit.{Edit}
 use Rattle.edit_definitions.specs.declared.edit.Edit.TheVariants.{Remove, Split, Merge}
-use Rattle.edit_definitions.specs.Places.{is_there, is_element, path_before, are_in_one}
+use Rattle.edit_definitions.specs.Places.{is_there, is_element, are_in_one}
 use Rattle.edit_definitions.specs.Planned.{name_of}
 use Rattle.edit_definitions.specs.Performed.{apart, edits_made}
 use Rattle.edit_definitions.proofs.Reached.{found, children-below, one-there}
