@@ -67,6 +67,21 @@ pub record Tells (text : List ℕ) (wanted : Status) (written written_then : Opt
   pub part : SendsFront written written_then text
   pub failed : status ≡ NotWritten → Rose writes writes_then
 
+-- Where it is told what is held: unless memory ran out or a call failed, the status of this number and the bytes are those of the outcome of what is
+-- held
+abbrev pub IsOutput : Calls → ((List ℕ → Option (List ℕ)) → Outcome) → ℕ → Type 0
+IsOutput calls wanted status = IfSome calls.held (λ held. status ≢ 3 → status ≢ 5 → (status ≡ 4 → IsFetched calls)
+    → IsOutcome calls.written calls.written_then status (wanted held))
+
+-- where it is told what is held, no call failed and memory didn't run out, they are those of that outcome whatever the status
+abbrev pub IsWholeOutput : Calls → ((List ℕ → Option (List ℕ)) → Outcome) → ℕ → Type 0
+IsWholeOutput calls wanted status = IfSome calls.held (λ held. IsFetched calls → ¬ IsBroken calls → status ≢ 3
+    → IsOutcome calls.written calls.written_then status (wanted held))
+
+-- where it is told what is held, what was written is a front of the bytes of its outcome
+abbrev pub IsFront : Calls → ((List ℕ → Option (List ℕ)) → Outcome) → Type 0
+IsFront calls wanted = IfSome calls.held (λ held. SendsFront calls.written calls.written_then (wanted held).bytes)
+
 -- the words are of no form, and the usage line was written
 abbrev pub ShowsUsage : Option (List ℕ) → Option (List ℕ) → List (List ℕ) → Type 0
 ShowsUsage written written_then words = (task_of words ≡ None) × (written_then ≡ append_known written usage)

@@ -1,11 +1,10 @@
 //! The top call: from the words of the command line to the bytes written and the status.
-ghost use Rattle.std.specs.Prelude.{◌≡◌, ◌≢◌, ◌≤◌, ◌⊎◌, true, None, map, string_bytes, length, IfErr, IfSome, OnOk};
+ghost use Rattle.std.specs.Prelude.{◌≡◌, ◌≢◌, ◌≤◌, ◌⊎◌, true, None, map, string_bytes, length, IfErr, OnOk};
 ghost use Rattle.std.specs.Io.KnownBytes.{append_known};
 ghost use Rattle.ck_io.specs.Rose.{Rose};
 ghost use Rattle.editor_core.specs.AsMachine.{machine_of, IsCurrent};
 ghost use Rattle.editor_core.specs.HandedIn.{givings_of};
-ghost use Rattle.editor_run.specs.Sent.{SendsFront};
-ghost use Rattle.editor_run.specs.Ends.{calls, Ends, Tells, IsOutcome, ShowsUsage, IsMissing};
+ghost use Rattle.editor_run.specs.Ends.{calls, Ends, Tells, IsOutput, IsWholeOutput, IsFront, ShowsUsage, IsMissing};
 ghost use Rattle.editor_run.specs.Unanswered.{SendsPart, Fails};
 ghost use Rattle.editor_run.specs.Unopened.{IsTold};
 ghost use Rattle.editor_run.specs.Status.{status_code, is_status};
@@ -277,17 +276,17 @@ pub fn run<F: Files, S: Sink, L: Ledger>(
     steps: &mut Steps<L>,
 ) -> u8
     // Where it is told what is held: unless memory ran out or a call failed, the status and the bytes are the machine's.
-    ensures output { IfSome (F.holds files.old) (λ held. result ≢ 3 → result ≢ 5 → (result ≡ 4 → ¬ Rose (F.faults files.old) (F.faults files.new))
-        → IsOutcome (S.written out.old) (S.written out.new) result
-        (output (givings_of (λ object. gives (object.vtable, object.value)) extensions.converters.items) (map string_bytes words.now) held)) }
-    ensures complete { IfSome (F.holds files.old) (λ held.
-        ¬ Rose (F.faults files.old) (F.faults files.new) → ¬ Rose (S.faults out.old) (S.faults out.new) → result ≢ 3
-        → IsOutcome (S.written out.old) (S.written out.new) result
-        (output (givings_of (λ object. gives (object.vtable, object.value)) extensions.converters.items) (map string_bytes words.now) held)) }
+    ensures output { IsOutput (calls (F.holds files.old) (F.faults files.old) (F.faults files.new)
+        (S.written out.old) (S.written out.new) (S.faults out.old) (S.faults out.new))
+        (output (givings_of (λ object. gives (object.vtable, object.value)) extensions.converters.items) (map string_bytes words.now)) result }
+    ensures complete { IsWholeOutput (calls (F.holds files.old) (F.faults files.old) (F.faults files.new)
+        (S.written out.old) (S.written out.new) (S.faults out.old) (S.faults out.new))
+        (output (givings_of (λ object. gives (object.vtable, object.value)) extensions.converters.items) (map string_bytes words.now)) result }
 
     // What was written is always a front of the machine's bytes.
-    ensures part { IfSome (F.holds files.old) (λ held. SendsFront (S.written out.old) (S.written out.new)
-        (output (givings_of (λ object. gives (object.vtable, object.value)) extensions.converters.items) (map string_bytes words.now) held).bytes) }
+    ensures part { IsFront (calls (F.holds files.old) (F.faults files.old) (F.faults files.new)
+        (S.written out.old) (S.written out.new) (S.faults out.old) (S.faults out.new))
+        (output (givings_of (λ object. gives (object.vtable, object.value)) extensions.converters.items) (map string_bytes words.now)) }
 
     // Whatever the files and the sink tell, each status has its cause.
     ensures bad_words { result ≡ 2 → ShowsUsage (S.written out.old) (S.written out.new) (map string_bytes words.now) }
