@@ -1,5 +1,5 @@
 #!/usr/bin/env python3
-"""Measures microseconds a line of the program, in documents of growing length, and below a growing number of highlights.
+"""Measures microseconds a line of the program, in documents of growing length, with fixers, and below a growing number of highlights.
 
 Usage: bench/run.py PROGRAM, where PROGRAM is the built program (docs/PERFORMANCE.md says where it lies).
 It prints the rows of the tables in docs/PERFORMANCE.md.
@@ -20,14 +20,27 @@ SETTINGS = {
     "version": 1,
     "schema": [
         {"item": "paragraph", "inheritAllFrom": "$block"},
+        {"item": "quote", "inheritAllFrom": "$container"},
         {"extend": "$text", "allowAttributes": ["bold"]},
     ],
     "converters": [
         {"kind": "elementToElement", "model": "paragraph", "view": {"name": "p"}},
+        {"kind": "elementToElement", "model": "quote", "view": {"name": "blockquote"}},
         {"kind": "attributeToElement", "model": "bold", "view": {"name": "strong"}},
         {"kind": "markerToHighlight", "marker": "comment", "view": {"attributes": {"class": "comment"}}},
     ],
 }
+
+
+# One fixer of each kind of the settings. None of them wants anything of the documents here, so that each walks the document once a line.
+FIXERS = [
+    "dropAttributes",
+    {"fill": "$root", "with": "paragraph"},
+    {"joinNeighbours": "quote"},
+    {"removeEmpty": "quote"},
+    {"require": "quote", "child": "paragraph"},
+    "selection",
+]
 
 
 def line_of(value):
@@ -78,10 +91,10 @@ def kinds(middle, line):
 UNKNOWN = {"edit": "insertElement", "at": [0], "name": "table"}
 
 
-def seconds(program, folder, lines):
-    """The time of a run of a script: the best of three."""
+def seconds(program, folder, lines, fixers):
+    """The time of a run of a script with these fixers: the best of three."""
     settings, script = folder / "settings", folder / "script"
-    settings.write_text(json.dumps(SETTINGS))
+    settings.write_text(json.dumps({**SETTINGS, "fixers": fixers}))
     script.write_text("".join(line + "\n" for line in lines))
     taken = []
     for _ in range(3):
@@ -93,9 +106,9 @@ def seconds(program, folder, lines):
     return min(taken)
 
 
-def microseconds(program, folder, lines):
+def microseconds(program, folder, lines, fixers):
     """The time of a line behind the first one, which makes the document."""
-    return (seconds(program, folder, lines) - seconds(program, folder, lines[:1])) / (len(lines) - 1) * 1e6
+    return (seconds(program, folder, lines, fixers) - seconds(program, folder, lines[:1], fixers)) / (len(lines) - 1) * 1e6
 
 
 def print_head(first, counts, of):
@@ -103,8 +116,8 @@ def print_head(first, counts, of):
     print("|---|" + "---|" * len(counts))
 
 
-def print_row(program, folder, name, scripts):
-    row = [f"{microseconds(program, folder, lines):.0f}" for lines in scripts]
+def print_row(program, folder, name, scripts, fixers=()):
+    row = [f"{microseconds(program, folder, lines, list(fixers)):.0f}" for lines in scripts]
     print(f"| {name} | " + " | ".join(row) + " |", flush=True)
 
 
@@ -118,6 +131,16 @@ def print_edits(program, folder):
             ]
             print_row(program, folder, kind + suffix, scripts)
     print_row(program, folder, "show", [[document(count)] + [SHOW] * SHOWS for count in PARAGRAPHS])
+
+
+def print_fixers(program, folder):
+    print_head("Line", PARAGRAPHS, "paragraphs")
+    scripts = [
+        [document(count)] + [change(kinds(count // 2, line)["insertText, one character"]) for line in range(min(LINES, count // 3))]
+        for count in PARAGRAPHS
+    ]
+    print_row(program, folder, "insertText, one character", scripts)
+    print_row(program, folder, "the same, with all six fixers of the settings", scripts, FIXERS)
 
 
 def print_highlights(program, folder):
@@ -134,6 +157,8 @@ def main():
     with tempfile.TemporaryDirectory() as name:
         folder = pathlib.Path(name)
         print_edits(program, folder)
+        print()
+        print_fixers(program, folder)
         print()
         print_highlights(program, folder)
 

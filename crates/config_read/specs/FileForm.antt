@@ -10,5 +10,6 @@ form_view form = record {
   start = form.start;
   entries = form.schema.entries.items;
   checks = form.schema.checks.items;
+  fixers = form.fixers.items;
   converters = form.converters.items;
 }

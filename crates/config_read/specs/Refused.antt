@@ -17,6 +17,7 @@ settings_view settings = record {
   version = settings.version;
   rounds = settings.rounds;
   start = settings.start;
+  fixers = settings.fixers.items;
   converters = settings.converters.items;
   indexed = settings.indexed.items;
 }

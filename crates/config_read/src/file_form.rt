@@ -3,14 +3,16 @@
 ghost use Rattle.std.specs.Prelude.{◌≡◌, ◌≤◌, IfSome, unwrap_or};
 ghost use Rattle.serde_json.specs.View.{view};
 ghost use Rattle.json_forms.specs.Form.{Reads};
-ghost use Rattle.settings_definitions.specs.Settings.{entries_field, checks_field, converters_field, form_at, form_of};
+ghost use Rattle.settings_definitions.specs.Settings.{entries_field, checks_field, fixers_field, converters_field, form_at, form_of};
 ghost use Rattle.config_read.specs.FileForm.{form_view};
 
+use crate::fixers::fixers_at;
 use crate::schema_file::{checks_at, entries_at};
 use ck_base::faults::FieldPath;
 use ck_base::name::Name;
 use converter_definitions::plan::ConverterPlan;
 use converter_read::converters::converters_at;
+use fix_definitions::plan::FixerPlan;
 use json_forms::fault::FormFault;
 use json_forms::forms::{bad_field, json_of, object_at, only_fields};
 use json_names::names::optional_name;
@@ -26,6 +28,7 @@ pub(crate) struct FileForm {
     pub rounds: u32,
     pub start: Option<Name>,
     pub schema: SchemaFile,
+    pub fixers: Vec<FixerPlan>,
     pub converters: Vec<ConverterPlan>,
 }
 
@@ -56,6 +59,22 @@ fn checks_field(alloc: Global, value: &Value) -> Result<Vec<Check>, FormFault>
     };
     let place = path.field("checks")?;
     checks_at(alloc, &place, items)
+}
+
+/// The fixers; where there is no such field, there are none.
+#[tactic(auto, unfolding(settings_definitions::specs::Settings::fixers_field))]
+fn fixers_field(alloc: Global, value: &Value) -> Result<Vec<FixerPlan>, FormFault>
+    ensures { Reads (λ fixers. fixers.items) result (fixers_field (view value.now)) }
+{
+    let Some(found) = value.get("fixers") else {
+        return Ok(Vec::new(alloc));
+    };
+    let path = FieldPath::new(alloc);
+    let Some(items) = found.as_array() else {
+        return Err(bad_field(&path, "fixers"));
+    };
+    let place = path.field("fixers")?;
+    fixers_at(alloc, &place, items)
 }
 
 /// The converters, which may ask for the index of an element or not.
@@ -98,6 +117,7 @@ fn form_at(alloc: Global, value: &Value) -> Result<FileForm, FormFault>
     let start = optional_name(alloc, &path, "start", value)?;
     let entries = entries_field(alloc, value)?;
     let checks = checks_field(alloc, value)?;
+    let fixers = fixers_field(alloc, value)?;
     let converters = converters_field(alloc, version == 2, value)?;
     only_fields(
         &path,
@@ -107,6 +127,7 @@ fn form_at(alloc: Global, value: &Value) -> Result<FileForm, FormFault>
             "start",
             "schema",
             "checks",
+            "fixers",
             "converters",
         ],
         value,
@@ -116,6 +137,7 @@ fn form_at(alloc: Global, value: &Value) -> Result<FileForm, FormFault>
         rounds: rounds_of(rounds),
         start,
         schema: SchemaFile { entries, checks },
+        fixers,
         converters,
     })
 }

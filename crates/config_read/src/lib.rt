@@ -2,6 +2,8 @@
 #![tactic(auto)]
 
 mod file_form;
+mod fixer_names;
+mod fixers;
 mod refusals;
 mod registered;
 mod schema_file;

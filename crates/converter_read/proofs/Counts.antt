@@ -7,12 +7,12 @@ use Rattle.converter_definitions.specs.Form.{Form, element, forms_of}
 use Rattle.converter_definitions.specs.Parts.{shape_of, shapes_of}
 use Rattle.converter_definitions.specs.Pattern.{Patterns}
 use Rattle.converter_definitions.specs.Shape.{form_count, inner_count, slot_count, inner_slots}
-use Rattle.settings_definitions.specs.declared.converter_parts.Before.{Before}
+use Rattle.converter_forms.specs.declared.parts.Before.{Before}
 use Rattle.serde_json.specs.Data.{Data, Items, item}
 use Rattle.json_forms.specs.declared.fault.FormFault.{FormFault}
 use Rattle.json_forms.specs.Form.{◌>>=◌, index_path}
 use Rattle.json_names.proofs.Fronts.{with_front, with_front_more}
-use Rattle.settings_definitions.specs.ShapeForm.{Reader, nodes_at, behind, behind_all, inside}
+use Rattle.converter_forms.specs.ShapeForm.{Reader, nodes_at, behind, behind_all, inside}
 
 -- one node more is seen as one more
 pub shapes_more : (nodes : List (ShapeNode Patterns)) (node : ShapeNode Patterns) → shapes_of (nodes ++ node ∷ []) ≡ shapes_of nodes ++ shape_of node ∷ []

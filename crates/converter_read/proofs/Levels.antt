@@ -2,8 +2,8 @@
 use Rattle.std.proofs.Common.{◌≡◌, ◌<◌, ◌-◌, ℕ, zero, suc, List, Bool, Option, refl, arith}
 use Rattle.serde_json.specs.Data.{Data}
 use Rattle.converter_definitions.specs.declared.kind.ShapeKind.{ShapeKind}
-use Rattle.settings_definitions.specs.declared.converter_parts.Before.{Before}
-use Rattle.settings_definitions.specs.ShapeForm.{node_of, node_at, below}
+use Rattle.converter_forms.specs.declared.parts.Before.{Before}
+use Rattle.converter_forms.specs.ShapeForm.{node_of, node_at, below}
 
 -- a node is read by the reader of the next level
 pub node_level : (indexes : Bool) (levels : ℕ) (parent : Option ShapeKind) (before : Before) (path : List ℕ) (d : Data)

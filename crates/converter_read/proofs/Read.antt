@@ -14,9 +14,9 @@ use Rattle.converter_definitions.specs.declared.kind.ShapeKind.TheVariants.{Cont
 use Rattle.converter_definitions.specs.Form.{Form, Forms, slot, text, element, forms_of, form_depth, inner_depth}
 use Rattle.converter_definitions.specs.Pattern.{Patterns}
 use Rattle.converter_definitions.specs.Shape.{may_stand, is_outermost, fits, fit_in, form_count, inner_count, slot_count, inner_slots, is_shape}
-use Rattle.settings_definitions.specs.declared.converter_parts.Before.{Before}
-use Rattle.settings_definitions.specs.ShapeForm.{Reader, takes_slot, takes_text, takes_element, stands, behind, inside, nodes_at, children_if, children_at}
-use Rattle.settings_definitions.specs.ShapeForm.{slot_field, slot_at, text_at, head_at, element_at, object_node_at, node_of, no_reader, node_at}
+use Rattle.converter_forms.specs.declared.parts.Before.{Before}
+use Rattle.converter_forms.specs.ShapeForm.{Reader, takes_slot, takes_text, takes_element, stands, behind, inside, nodes_at, children_if, children_at}
+use Rattle.converter_forms.specs.ShapeForm.{slot_field, slot_at, text_at, head_at, element_at, object_node_at, node_of, no_reader, node_at}
 
 -- what a step that gives something went through
 step : {A B : Type 0} (r : Result A FormFault) (next : A → Result B FormFault) (b : B) → (r >>= next) ≡ Ok b → (a : A) × (r ≡ Ok a) × (next a ≡ Ok b)

@@ -3,14 +3,14 @@
 ghost use Rattle.std.specs.Prelude.{◌≡◌, [], Ok, codes};
 ghost use Rattle.serde_json.specs.View.{view, items_view};
 ghost use Rattle.json_forms.specs.Form.{Reads};
-ghost use Rattle.settings_definitions.specs.PatternForm.{pattern_at};
-ghost use Rattle.settings_definitions.specs.ShapeForm.{shape_at};
-ghost use Rattle.settings_definitions.specs.ViewForm.{viewed, element_view_at, layer_view_at, attribute_view_at, highlight_view_at, leaf_at};
-ghost use Rattle.settings_definitions.specs.ConverterForm.{stock_plan, reads_index, only_element_fields, element_converter_at, structure_converter_at};
-ghost use Rattle.settings_definitions.specs.ConverterForm.{optional_value, layer_converter_at, is_index_view, element_field, attribute_converter_at};
-ghost use Rattle.settings_definitions.specs.ConverterForm.{only_marker_fields, highlight_converter_at, leaf_converter_at, index_field, only_indexed_fields};
-ghost use Rattle.settings_definitions.specs.ConverterForm.{only_plain_fields, only_custom_fields, custom_converter_at, kind_of, kind_field, kind_converter_at};
-ghost use Rattle.settings_definitions.specs.ConverterForm.{converter_at, converters_at};
+ghost use Rattle.converter_forms.specs.PatternForm.{pattern_at};
+ghost use Rattle.converter_forms.specs.ShapeForm.{shape_at};
+ghost use Rattle.converter_forms.specs.ViewForm.{viewed, element_view_at, layer_view_at, attribute_view_at, highlight_view_at, leaf_at};
+ghost use Rattle.converter_forms.specs.ConverterForm.{stock_plan, reads_index, only_element_fields, element_converter_at, structure_converter_at};
+ghost use Rattle.converter_forms.specs.ConverterForm.{optional_value, layer_converter_at, is_index_view, element_field, attribute_converter_at};
+ghost use Rattle.converter_forms.specs.ConverterForm.{only_marker_fields, highlight_converter_at, leaf_converter_at, index_field, only_indexed_fields};
+ghost use Rattle.converter_forms.specs.ConverterForm.{only_plain_fields, only_custom_fields, custom_converter_at, kind_of, kind_field, kind_converter_at};
+ghost use Rattle.converter_forms.specs.ConverterForm.{converter_at, converters_at};
 
 use crate::patterns::pattern_at;
 use crate::priorities::priority_field;
@@ -28,12 +28,12 @@ use converter_definitions::shape::Shape;
 use converter_definitions::stock::{
     AttributeView, ElementView, HighlightView, LayerView, Leaf, StockConverter,
 };
+use converter_forms::parts::ConverterKind;
 use json_forms::fault::FormFault;
 use json_forms::forms::{bad_field, object_at, only_fields};
 use json_names::names::{name_field, optional_name};
 use json_values::values::{attributes_field, value_at};
 use serde_json::Value;
-use settings_definitions::converter_parts::ConverterKind;
 use std::alloc::Global;
 
 /// What `elementToElement` makes.
@@ -120,7 +120,7 @@ fn stock_plan(priority: Priority, converter: StockConverter) -> ConverterPlan
 }
 
 /// Tests that a converter of elements has no fields but those of its form.
-#[tactic(auto, unfolding(settings_definitions::specs::ConverterForm::only_element_fields))]
+#[tactic(auto, unfolding(converter_forms::specs::ConverterForm::only_element_fields))]
 fn only_element_fields(path: &FieldPath, value: &Value) -> Result<(), FormFault>
     ensures { Reads (λ _. tt) result (only_element_fields path.now (view value.now)) }
 {
@@ -132,7 +132,7 @@ fn only_element_fields(path: &FieldPath, value: &Value) -> Result<(), FormFault>
 }
 
 /// A converter from an element to an element.
-#[tactic(auto, unfolding(settings_definitions::specs::ConverterForm::element_converter_at))]
+#[tactic(auto, unfolding(converter_forms::specs::ConverterForm::element_converter_at))]
 fn element_converter_at(
     alloc: Global,
     indexes: bool,
@@ -159,7 +159,7 @@ fn element_converter_at(
 }
 
 /// A converter from an element to a shape.
-#[tactic(auto, unfolding(settings_definitions::specs::ConverterForm::structure_converter_at))]
+#[tactic(auto, unfolding(converter_forms::specs::ConverterForm::structure_converter_at))]
 fn structure_converter_at(
     alloc: Global,
     indexes: bool,
@@ -186,7 +186,7 @@ fn structure_converter_at(
 }
 
 /// A field that may be there, and is a value.
-#[tactic(auto, unfolding(settings_definitions::specs::ConverterForm::optional_value))]
+#[tactic(auto, unfolding(converter_forms::specs::ConverterForm::optional_value))]
 fn optional_value(
     alloc: Global,
     path: &FieldPath,
@@ -204,7 +204,7 @@ fn optional_value(
 }
 
 /// A converter from an attribute to an attribute element.
-#[tactic(auto, unfolding(settings_definitions::specs::ConverterForm::layer_converter_at))]
+#[tactic(auto, unfolding(converter_forms::specs::ConverterForm::layer_converter_at))]
 fn layer_converter_at(
     alloc: Global,
     path: &FieldPath,
@@ -240,7 +240,7 @@ fn reads_index(alloc: Global, indexes: bool, value: &Value) -> Result<bool, Form
 }
 
 /// Whether the text of the attribute is an index.
-#[tactic(auto, unfolding(settings_definitions::specs::ConverterForm::is_index_view))]
+#[tactic(auto, unfolding(converter_forms::specs::ConverterForm::is_index_view))]
 fn is_index_view(alloc: Global, indexes: bool, value: &Value) -> Result<bool, FormFault>
     ensures { Reads (λ counted. counted) result (Ok (is_index_view indexes (view value.now))) }
 {
@@ -254,7 +254,7 @@ fn is_index_view(alloc: Global, indexes: bool, value: &Value) -> Result<bool, Fo
 }
 
 /// The name of the elements, which has to be there where the text of the attribute is an index.
-#[tactic(auto, unfolding(settings_definitions::specs::ConverterForm::element_field))]
+#[tactic(auto, unfolding(converter_forms::specs::ConverterForm::element_field))]
 fn element_field(
     alloc: Global,
     indexes: bool,
@@ -273,7 +273,7 @@ fn element_field(
 }
 
 /// A converter from an attribute to an attribute of the view.
-#[tactic(auto, unfolding(settings_definitions::specs::ConverterForm::attribute_converter_at))]
+#[tactic(auto, unfolding(converter_forms::specs::ConverterForm::attribute_converter_at))]
 fn attribute_converter_at(
     alloc: Global,
     indexes: bool,
@@ -304,7 +304,7 @@ fn attribute_converter_at(
 }
 
 /// Tests that a converter of markers has no fields but those of its form.
-#[tactic(auto, unfolding(settings_definitions::specs::ConverterForm::only_marker_fields))]
+#[tactic(auto, unfolding(converter_forms::specs::ConverterForm::only_marker_fields))]
 fn only_marker_fields(path: &FieldPath, value: &Value) -> Result<(), FormFault>
     ensures { Reads (λ _. tt) result (only_marker_fields path.now (view value.now)) }
 {
@@ -312,7 +312,7 @@ fn only_marker_fields(path: &FieldPath, value: &Value) -> Result<(), FormFault>
 }
 
 /// A converter from a marker to an attribute element.
-#[tactic(auto, unfolding(settings_definitions::specs::ConverterForm::highlight_converter_at))]
+#[tactic(auto, unfolding(converter_forms::specs::ConverterForm::highlight_converter_at))]
 fn highlight_converter_at(
     alloc: Global,
     path: &FieldPath,
@@ -334,7 +334,7 @@ fn highlight_converter_at(
 }
 
 /// A converter from a marker to a UI element.
-#[tactic(auto, unfolding(settings_definitions::specs::ConverterForm::leaf_converter_at))]
+#[tactic(auto, unfolding(converter_forms::specs::ConverterForm::leaf_converter_at))]
 fn leaf_converter_at(
     alloc: Global,
     path: &FieldPath,
@@ -353,7 +353,7 @@ fn leaf_converter_at(
 }
 
 /// The name of the elements whose index a product's converter is given.
-#[tactic(auto, unfolding(settings_definitions::specs::ConverterForm::index_field))]
+#[tactic(auto, unfolding(converter_forms::specs::ConverterForm::index_field))]
 fn index_field(
     alloc: Global,
     indexes: bool,
@@ -370,7 +370,7 @@ fn index_field(
 }
 
 /// Tests that a product's converter has no fields but those of its form where indexes may be asked for.
-#[tactic(auto, unfolding(settings_definitions::specs::ConverterForm::only_indexed_fields))]
+#[tactic(auto, unfolding(converter_forms::specs::ConverterForm::only_indexed_fields))]
 fn only_indexed_fields(path: &FieldPath, value: &Value) -> Result<(), FormFault>
     ensures { Reads (λ _. tt) result (only_indexed_fields path.now (view value.now)) }
 {
@@ -378,7 +378,7 @@ fn only_indexed_fields(path: &FieldPath, value: &Value) -> Result<(), FormFault>
 }
 
 /// Tests that a product's converter has no fields but those of its form where no index may be asked for.
-#[tactic(auto, unfolding(settings_definitions::specs::ConverterForm::only_plain_fields))]
+#[tactic(auto, unfolding(converter_forms::specs::ConverterForm::only_plain_fields))]
 fn only_plain_fields(path: &FieldPath, value: &Value) -> Result<(), FormFault>
     ensures { Reads (λ _. tt) result (only_plain_fields path.now (view value.now)) }
 {
@@ -386,7 +386,7 @@ fn only_plain_fields(path: &FieldPath, value: &Value) -> Result<(), FormFault>
 }
 
 /// Tests that a product's converter has no fields but those of its form.
-#[tactic(auto, unfolding(settings_definitions::specs::ConverterForm::only_custom_fields))]
+#[tactic(auto, unfolding(converter_forms::specs::ConverterForm::only_custom_fields))]
 fn only_custom_fields(indexes: bool, path: &FieldPath, value: &Value) -> Result<(), FormFault>
     ensures { Reads (λ _. tt) result (only_custom_fields indexes path.now (view value.now)) }
 {
@@ -398,7 +398,7 @@ fn only_custom_fields(indexes: bool, path: &FieldPath, value: &Value) -> Result<
 }
 
 /// A converter of a product.
-#[tactic(auto, unfolding(settings_definitions::specs::ConverterForm::custom_converter_at))]
+#[tactic(auto, unfolding(converter_forms::specs::ConverterForm::custom_converter_at))]
 fn custom_converter_at(
     alloc: Global,
     indexes: bool,
@@ -418,7 +418,7 @@ fn custom_converter_at(
 }
 
 /// The kind that a word means.
-#[tactic(auto, unfolding(settings_definitions::specs::ConverterForm::kind_of))]
+#[tactic(auto, unfolding(converter_forms::specs::ConverterForm::kind_of))]
 fn kind_of(word: &str) -> Option<ConverterKind>
     ensures { result ≡ kind_of word.now }
 {
@@ -435,7 +435,7 @@ fn kind_of(word: &str) -> Option<ConverterKind>
 }
 
 /// The kind of a converter.
-#[tactic(auto, unfolding(settings_definitions::specs::ConverterForm::kind_field))]
+#[tactic(auto, unfolding(converter_forms::specs::ConverterForm::kind_field))]
 fn kind_field(path: &FieldPath, value: &Value) -> Result<ConverterKind, FormFault>
     ensures { Reads (λ kind. kind) result (kind_field path.now (view value.now)) }
 {
@@ -446,7 +446,7 @@ fn kind_field(path: &FieldPath, value: &Value) -> Result<ConverterKind, FormFaul
 }
 
 /// A converter of this kind.
-#[tactic(auto, unfolding(settings_definitions::specs::ConverterForm::kind_converter_at))]
+#[tactic(auto, unfolding(converter_forms::specs::ConverterForm::kind_converter_at))]
 fn kind_converter_at(
     alloc: Global,
     kind: ConverterKind,
@@ -468,7 +468,7 @@ fn kind_converter_at(
 }
 
 /// A converter at this place.
-#[tactic(auto, unfolding(settings_definitions::specs::ConverterForm::converter_at))]
+#[tactic(auto, unfolding(converter_forms::specs::ConverterForm::converter_at))]
 fn converter_at(
     alloc: Global,
     indexes: bool,
@@ -485,7 +485,7 @@ fn converter_at(
 /// The converters of a list, in their order; `indexes` says whether they may ask for the index of an element, as they may in files of version
 /// 2. It answers `BadField` with the first place that breaks the form, or `NoMemory`. (After CKEditor 5's `elementToElement`,
 /// `elementToStructure`, `attributeToElement`, `attributeToAttribute`, `markerToHighlight` and `markerToElement`.)
-#[tactic(auto, using(json_names::proofs::Fronts::with_front_more), unfolding(settings_definitions::specs::ConverterForm::converters_at))]
+#[tactic(auto, using(json_names::proofs::Fronts::with_front_more), unfolding(converter_forms::specs::ConverterForm::converters_at))]
 pub fn converters_at(
     alloc: Global,
     indexes: bool,

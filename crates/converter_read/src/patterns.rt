@@ -3,8 +3,8 @@
 ghost use Rattle.std.specs.Prelude.{◌≡◌, [], IfOk};
 ghost use Rattle.serde_json.specs.View.{view, members_view};
 ghost use Rattle.json_forms.specs.Form.{Reads};
-ghost use Rattle.settings_definitions.specs.PatternForm.{from_pattern, index_pattern, object_pattern, pattern_at, key_pattern_at, patterns_from};
-ghost use Rattle.settings_definitions.specs.PatternForm.{patterns_field, key_text_at, texts_from, texts_field};
+ghost use Rattle.converter_forms.specs.PatternForm.{from_pattern, index_pattern, object_pattern, pattern_at, key_pattern_at, patterns_from};
+ghost use Rattle.converter_forms.specs.PatternForm.{patterns_field, key_text_at, texts_from, texts_field};
 
 use ck_base::attributes::ViewAttrs;
 use ck_base::faults::FieldPath;
@@ -22,7 +22,7 @@ use std::alloc::Global;
 const MAX_BASE: u64 = 1000000;
 
 /// A pattern that takes the value of an attribute.
-#[tactic(auto, unfolding(settings_definitions::specs::PatternForm::from_pattern))]
+#[tactic(auto, unfolding(converter_forms::specs::PatternForm::from_pattern))]
 fn from_pattern(alloc: Global, path: &FieldPath, value: &Value) -> Result<Pattern, FormFault>
     ensures { Reads (λ pattern. pattern) result (from_pattern path.now (view value.now)) }
 {
@@ -32,7 +32,7 @@ fn from_pattern(alloc: Global, path: &FieldPath, value: &Value) -> Result<Patter
 }
 
 /// A pattern that takes an index.
-#[tactic(auto, unfolding(settings_definitions::specs::PatternForm::index_pattern))]
+#[tactic(auto, unfolding(converter_forms::specs::PatternForm::index_pattern))]
 fn index_pattern(path: &FieldPath, value: &Value) -> Result<Pattern, FormFault>
     ensures { Reads (λ pattern. pattern) result (index_pattern path.now (view value.now)) }
 {
@@ -42,7 +42,7 @@ fn index_pattern(path: &FieldPath, value: &Value) -> Result<Pattern, FormFault>
 }
 
 /// A pattern that is an object.
-#[tactic(auto, unfolding(settings_definitions::specs::PatternForm::object_pattern))]
+#[tactic(auto, unfolding(converter_forms::specs::PatternForm::object_pattern))]
 fn object_pattern(
     alloc: Global,
     indexes: bool,
@@ -62,7 +62,7 @@ fn object_pattern(
 }
 
 /// A pattern; where indexes may be asked for, also one of an index.
-#[tactic(auto, unfolding(settings_definitions::specs::PatternForm::pattern_at))]
+#[tactic(auto, unfolding(converter_forms::specs::PatternForm::pattern_at))]
 pub(crate) fn pattern_at(
     alloc: Global,
     indexes: bool,
@@ -81,7 +81,7 @@ pub(crate) fn pattern_at(
 }
 
 /// The pattern of a key, which has to be a name.
-#[tactic(auto, unfolding(settings_definitions::specs::PatternForm::key_pattern_at))]
+#[tactic(auto, unfolding(converter_forms::specs::PatternForm::key_pattern_at))]
 fn key_pattern_at(
     alloc: Global,
     indexes: bool,
@@ -103,7 +103,7 @@ fn key_pattern_at(
 }
 
 /// The patterns of an object.
-#[tactic(auto, using(json_names::proofs::Fronts::with_front_more), unfolding(settings_definitions::specs::PatternForm::patterns_from))]
+#[tactic(auto, using(json_names::proofs::Fronts::with_front_more), unfolding(converter_forms::specs::PatternForm::patterns_from))]
 fn patterns_of(
     alloc: Global,
     indexes: bool,
@@ -121,7 +121,7 @@ fn patterns_of(
 }
 
 /// A field that is an object of names to patterns; where it isn't there, there are none.
-#[tactic(auto, unfolding(settings_definitions::specs::PatternForm::patterns_field))]
+#[tactic(auto, unfolding(converter_forms::specs::PatternForm::patterns_field))]
 pub(crate) fn patterns_field(
     alloc: Global,
     indexes: bool,
@@ -142,7 +142,7 @@ pub(crate) fn patterns_field(
 }
 
 /// The text of a key, which has to be a name.
-#[tactic(auto, unfolding(settings_definitions::specs::PatternForm::key_text_at))]
+#[tactic(auto, unfolding(converter_forms::specs::PatternForm::key_text_at))]
 fn key_text_at(
     alloc: Global,
     path: &FieldPath,
@@ -165,7 +165,7 @@ fn key_text_at(
 }
 
 /// The texts of an object.
-#[tactic(auto, unfolding(settings_definitions::specs::PatternForm::texts_from))]
+#[tactic(auto, unfolding(converter_forms::specs::PatternForm::texts_from))]
 fn texts_of(
     alloc: Global,
     path: &FieldPath,
@@ -182,7 +182,7 @@ fn texts_of(
 }
 
 /// A field that is an object of names to texts; where it isn't there, there are none.
-#[tactic(auto, unfolding(settings_definitions::specs::PatternForm::texts_field))]
+#[tactic(auto, unfolding(converter_forms::specs::PatternForm::texts_field))]
 pub(crate) fn texts_field(
     alloc: Global,
     path: &FieldPath,

@@ -2,7 +2,7 @@
 ghost use Rattle.std.specs.Prelude.{◌≡◌, pos, option_and_then};
 ghost use Rattle.serde_json.specs.View.{view};
 ghost use Rattle.json_forms.specs.Form.{Reads};
-ghost use Rattle.settings_definitions.specs.PriorityForm.{level_of, priority_of, priority_field, layer_priority_field};
+ghost use Rattle.converter_forms.specs.PriorityForm.{level_of, priority_of, priority_field, layer_priority_field};
 
 use ck_base::faults::FieldPath;
 use ck_base::priority::Priority;
@@ -41,7 +41,7 @@ fn normal() -> Priority
 }
 
 /// The priority of a converter.
-#[tactic(auto, unfolding(settings_definitions::specs::PriorityForm::priority_field))]
+#[tactic(auto, unfolding(converter_forms::specs::PriorityForm::priority_field))]
 pub(crate) fn priority_field(path: &FieldPath, value: &Value) -> Result<Priority, FormFault>
     ensures { Reads (λ priority. priority) result (priority_field path.now (view value.now)) }
 {
@@ -55,7 +55,7 @@ pub(crate) fn priority_field(path: &FieldPath, value: &Value) -> Result<Priority
 }
 
 /// The priority of a layer.
-#[tactic(auto, unfolding(settings_definitions::specs::PriorityForm::layer_priority_field))]
+#[tactic(auto, unfolding(converter_forms::specs::PriorityForm::layer_priority_field))]
 pub(crate) fn layer_priority_field(path: &FieldPath, value: &Value) -> Result<i32, FormFault>
     ensures { Reads (λ level. level) result (layer_priority_field path.now (view value.now)) }
 {

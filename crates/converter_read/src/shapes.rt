@@ -5,9 +5,9 @@ ghost use Rattle.std.specs.Str.{chars};
 ghost use Rattle.serde_json.specs.View.{view, items_view};
 ghost use Rattle.json_forms.specs.Form.{Reads};
 ghost use Rattle.converter_definitions.specs.Parts.{shape_of, shapes_of};
-ghost use Rattle.settings_definitions.specs.ShapeForm.{takes_slot, takes_text, takes_element, stands, behind, behind_all, inside, nodes_at, children_at};
-ghost use Rattle.settings_definitions.specs.ShapeForm.{slot_field, slot_at, text_at, kind_of_type, type_field, head_at, element_at, object_node_at, node_of};
-ghost use Rattle.settings_definitions.specs.ShapeForm.{node_at, below, shape_at};
+ghost use Rattle.converter_forms.specs.ShapeForm.{takes_slot, takes_text, takes_element, stands, behind, behind_all, inside, nodes_at, children_at};
+ghost use Rattle.converter_forms.specs.ShapeForm.{slot_field, slot_at, text_at, kind_of_type, type_field, head_at, element_at, object_node_at, node_of};
+ghost use Rattle.converter_forms.specs.ShapeForm.{node_at, below, shape_at};
 
 use crate::patterns::patterns_field;
 use ck_base::faults::FieldPath;
@@ -16,12 +16,12 @@ use ck_base::text::ViewText;
 use converter_definitions::kind::ShapeKind;
 use converter_definitions::pattern::Patterns;
 use converter_definitions::shape::{Shape, ShapeNode, ShapeNodes};
+use converter_forms::parts::{Before, Head};
 use json_forms::fault::FormFault;
 use json_forms::forms::{bad_field, bad_value, only_fields};
 use json_names::names::name_field;
 use json_names::values::truth_field;
 use serde_json::Value;
-use settings_definitions::converter_parts::{Before, Head};
 use std::alloc::Global;
 
 /// The most nodes of a shape.
@@ -64,7 +64,7 @@ fn takes_element(parent: Option<ShapeKind>, kind: ShapeKind) -> bool
 }
 
 /// Tests whether a node may stand where it is, and counts it.
-#[tactic(auto, unfolding(settings_definitions::specs::ShapeForm::inside))]
+#[tactic(auto, unfolding(converter_forms::specs::ShapeForm::inside))]
 fn stand(path: &FieldPath, taken: bool, levels: u32, before: &mut Before) -> Result<(), FormFault>
     ensures reads { Reads (λ _. tt) result (stands path.now taken levels before.old) }
     ensures taken { OnOk result (taken ≡ true) }
@@ -80,7 +80,7 @@ fn stand(path: &FieldPath, taken: bool, levels: u32, before: &mut Before) -> Res
 }
 
 /// Tests the field of a slot.
-#[tactic(auto, unfolding(settings_definitions::specs::ShapeForm::slot_field))]
+#[tactic(auto, unfolding(converter_forms::specs::ShapeForm::slot_field))]
 fn slot_field(path: &FieldPath, value: &Value) -> Result<(), FormFault>
     ensures { Reads (λ _. tt) result (slot_field path.now (view value.now)) }
 {
@@ -93,7 +93,7 @@ fn slot_field(path: &FieldPath, value: &Value) -> Result<(), FormFault>
 }
 
 /// A slot.
-#[tactic(auto, unfolding(settings_definitions::specs::ShapeForm::slot_at, settings_definitions::specs::ShapeForm::inside, settings_definitions::specs::ShapeForm::behind))]
+#[tactic(auto, unfolding(converter_forms::specs::ShapeForm::slot_at, converter_forms::specs::ShapeForm::inside, converter_forms::specs::ShapeForm::behind))]
 fn slot_at(
     spot: Spot,
     before: &mut Before,
@@ -112,7 +112,7 @@ fn slot_at(
 }
 
 /// A text.
-#[tactic(auto, unfolding(settings_definitions::specs::ShapeForm::text_at, settings_definitions::specs::ShapeForm::inside, settings_definitions::specs::ShapeForm::behind))]
+#[tactic(auto, unfolding(converter_forms::specs::ShapeForm::text_at, converter_forms::specs::ShapeForm::inside, converter_forms::specs::ShapeForm::behind))]
 fn text_at(
     alloc: Global,
     spot: Spot,
@@ -141,7 +141,7 @@ fn kind_of_type(word: &str) -> Option<ShapeKind>
 }
 
 /// The kind of an element.
-#[tactic(auto, unfolding(settings_definitions::specs::ShapeForm::type_field))]
+#[tactic(auto, unfolding(converter_forms::specs::ShapeForm::type_field))]
 fn type_field(path: &FieldPath, value: &Value) -> Result<ShapeKind, FormFault>
     ensures { Reads (λ kind. kind) result (type_field path.now (view value.now)) }
 {
@@ -155,7 +155,7 @@ fn type_field(path: &FieldPath, value: &Value) -> Result<ShapeKind, FormFault>
 }
 
 /// An element's own fields.
-#[tactic(auto, unfolding(settings_definitions::specs::ShapeForm::head_at))]
+#[tactic(auto, unfolding(converter_forms::specs::ShapeForm::head_at))]
 fn head_at(alloc: Global, indexes: bool, path: &FieldPath, value: &Value) -> Result<Head, FormFault>
     ensures { Reads (λ head. head) result (head_at indexes path.now (view value.now)) }
 {
@@ -171,7 +171,7 @@ fn head_at(alloc: Global, indexes: bool, path: &FieldPath, value: &Value) -> Res
 
 /// The children of an element of this kind, on the first of so many levels, from a list.
 #[cycle(nodes)]
-#[tactic(auto, using(json_names::proofs::Fronts::with_front_more, crate::proofs::Counts::shapes_more, crate::proofs::Counts::behind_none, crate::proofs::Counts::behind_more), unfolding(settings_definitions::specs::ShapeForm::nodes_at))]
+#[tactic(auto, using(json_names::proofs::Fronts::with_front_more, crate::proofs::Counts::shapes_more, crate::proofs::Counts::behind_none, crate::proofs::Counts::behind_more), unfolding(converter_forms::specs::ShapeForm::nodes_at))]
 fn nodes_at(
     alloc: Global,
     indexes: bool,
@@ -194,7 +194,7 @@ fn nodes_at(
 
 /// The children of an element of this kind, on the first of so many levels.
 #[cycle(nodes)]
-#[tactic(auto, using(crate::proofs::Counts::behind_none), unfolding(settings_definitions::specs::ShapeForm::children_at))]
+#[tactic(auto, using(crate::proofs::Counts::behind_none), unfolding(converter_forms::specs::ShapeForm::children_at))]
 fn children_at(
     alloc: Global,
     indexes: bool,
@@ -219,7 +219,7 @@ fn children_at(
 
 /// An element and what is in it.
 #[cycle(nodes)]
-#[tactic(auto, using(crate::proofs::Levels::below_level, crate::proofs::Counts::behind_element), unfolding(settings_definitions::specs::ShapeForm::element_at))]
+#[tactic(auto, using(crate::proofs::Levels::below_level, crate::proofs::Counts::behind_element), unfolding(converter_forms::specs::ShapeForm::element_at))]
 fn element_at(
     alloc: Global,
     indexes: bool,
@@ -255,7 +255,7 @@ fn element_at(
 
 /// A slot or an element, whose value is an object.
 #[cycle(nodes)]
-#[tactic(auto, unfolding(settings_definitions::specs::ShapeForm::object_node_at))]
+#[tactic(auto, unfolding(converter_forms::specs::ShapeForm::object_node_at))]
 fn object_node_at(
     alloc: Global,
     indexes: bool,
@@ -277,7 +277,7 @@ fn object_node_at(
 
 /// A node of any form.
 #[cycle(nodes)]
-#[tactic(auto, unfolding(settings_definitions::specs::ShapeForm::node_of))]
+#[tactic(auto, unfolding(converter_forms::specs::ShapeForm::node_of))]
 fn node_of(
     alloc: Global,
     indexes: bool,
@@ -316,7 +316,7 @@ fn node_at(
 }
 
 /// A shape, by its outermost node.
-#[tactic(auto, using(crate::proofs::Read::read_shape), unfolding(settings_definitions::specs::ShapeForm::shape_at))]
+#[tactic(auto, using(crate::proofs::Read::read_shape), unfolding(converter_forms::specs::ShapeForm::shape_at))]
 pub(crate) fn shape_at(
     alloc: Global,
     indexes: bool,

@@ -3,8 +3,8 @@
 ghost use Rattle.std.specs.Prelude.{◌≡◌, codes, unwrap_or};
 ghost use Rattle.serde_json.specs.View.{view};
 ghost use Rattle.json_forms.specs.Form.{Reads, field_at};
-ghost use Rattle.settings_definitions.specs.ViewForm.{is_empty_type, empty_type_field, element_view_at, only_layer_fields, layer_view_at, optional_pattern};
-ghost use Rattle.settings_definitions.specs.ViewForm.{attribute_view_at, highlight_name_field, highlight_view_at, leaf_at};
+ghost use Rattle.converter_forms.specs.ViewForm.{is_empty_type, empty_type_field, element_view_at, only_layer_fields, layer_view_at, optional_pattern};
+ghost use Rattle.converter_forms.specs.ViewForm.{attribute_view_at, highlight_name_field, highlight_view_at, leaf_at};
 
 use crate::patterns::{pattern_at, patterns_field, texts_field};
 use crate::priorities::layer_priority_field;
@@ -41,7 +41,7 @@ fn is_empty_type(word: &str) -> Option<bool>
 }
 
 /// Whether the type is `empty`.
-#[tactic(auto, unfolding(settings_definitions::specs::ViewForm::empty_type_field))]
+#[tactic(auto, unfolding(converter_forms::specs::ViewForm::empty_type_field))]
 fn empty_type_field(path: &FieldPath, value: &Value) -> Result<bool, FormFault>
     ensures { Reads (λ is_empty. is_empty) result (empty_type_field path.now (view value.now)) }
 {
@@ -55,7 +55,7 @@ fn empty_type_field(path: &FieldPath, value: &Value) -> Result<bool, FormFault>
 }
 
 /// An element of the view.
-#[tactic(auto, unfolding(settings_definitions::specs::ViewForm::element_view_at))]
+#[tactic(auto, unfolding(converter_forms::specs::ViewForm::element_view_at))]
 pub(crate) fn element_view_at(
     alloc: Global,
     indexes: bool,
@@ -77,7 +77,7 @@ pub(crate) fn element_view_at(
 }
 
 /// Tests that an attribute element has no fields but those of its form.
-#[tactic(auto, unfolding(settings_definitions::specs::ViewForm::only_layer_fields))]
+#[tactic(auto, unfolding(converter_forms::specs::ViewForm::only_layer_fields))]
 fn only_layer_fields(path: &FieldPath, value: &Value) -> Result<(), FormFault>
     ensures { Reads (λ _. tt) result (only_layer_fields path.now (view value.now)) }
 {
@@ -85,7 +85,7 @@ fn only_layer_fields(path: &FieldPath, value: &Value) -> Result<(), FormFault>
 }
 
 /// An attribute element.
-#[tactic(auto, unfolding(settings_definitions::specs::ViewForm::layer_view_at))]
+#[tactic(auto, unfolding(converter_forms::specs::ViewForm::layer_view_at))]
 pub(crate) fn layer_view_at(
     alloc: Global,
     path: &FieldPath,
@@ -108,7 +108,7 @@ pub(crate) fn layer_view_at(
 }
 
 /// A field that may be there, and is a pattern.
-#[tactic(auto, unfolding(settings_definitions::specs::ViewForm::optional_pattern))]
+#[tactic(auto, unfolding(converter_forms::specs::ViewForm::optional_pattern))]
 fn optional_pattern(
     alloc: Global,
     indexes: bool,
@@ -127,7 +127,7 @@ fn optional_pattern(
 }
 
 /// An attribute of the view.
-#[tactic(auto, unfolding(settings_definitions::specs::ViewForm::attribute_view_at))]
+#[tactic(auto, unfolding(converter_forms::specs::ViewForm::attribute_view_at))]
 pub(crate) fn attribute_view_at(
     alloc: Global,
     indexes: bool,
@@ -162,7 +162,7 @@ fn highlight_name(alloc: Global, name: Option<Name>) -> Result<Name, FormFault>
 }
 
 /// The name of a highlight.
-#[tactic(auto, unfolding(settings_definitions::specs::ViewForm::highlight_name_field))]
+#[tactic(auto, unfolding(converter_forms::specs::ViewForm::highlight_name_field))]
 fn highlight_name_field(alloc: Global, path: &FieldPath, value: &Value) -> Result<Name, FormFault>
     ensures { Reads (λ name. name) result (highlight_name_field path.now (view value.now)) }
 {
@@ -171,7 +171,7 @@ fn highlight_name_field(alloc: Global, path: &FieldPath, value: &Value) -> Resul
 }
 
 /// The attribute element of a marker.
-#[tactic(auto, unfolding(settings_definitions::specs::ViewForm::highlight_view_at))]
+#[tactic(auto, unfolding(converter_forms::specs::ViewForm::highlight_view_at))]
 pub(crate) fn highlight_view_at(
     alloc: Global,
     path: &FieldPath,
@@ -194,7 +194,7 @@ pub(crate) fn highlight_view_at(
 }
 
 /// The UI element of a marker.
-#[tactic(auto, unfolding(settings_definitions::specs::ViewForm::leaf_at))]
+#[tactic(auto, unfolding(converter_forms::specs::ViewForm::leaf_at))]
 pub(crate) fn leaf_at(alloc: Global, path: &FieldPath, value: &Value) -> Result<Leaf, FormFault>
     ensures { Reads (λ leaf. leaf) result (leaf_at path.now (view value.now)) }
 {

@@ -1,150 +1,107 @@
--- A converter that is taken out of those that are handed in, by its name.
-use Rattle.std.proofs.Common.{◌≡◌, ℕ, suc, ◌+◌, ◌<◌, List, [], ◌∷◌, map, length, Bool, true, false, if◌then◌else◌, Option, Some, None, option_map, cond, not}
-use Rattle.std.proofs.Common.{refl, sym, ap, ◌∙◌, arith}
-use Rattle.std.proofs.lemmas.Bool.Decides.{nat_tests}
-use Rattle.std.specs.Global.{Global}
-use Rattle.std.specs.Prelude.{nat_lt, slice_index_or}
-use Rattle.std.specs.declared.dyn_box.DynBox.{DynBox}
-use Rattle.std.specs.List.{position, position_or_len, remove}
+-- An object that is taken out of those that are handed in, by its name.
+use Rattle.std.proofs.Common.{◌≡◌, ℕ, suc, List, [], ◌∷◌, Bool, true, false, if◌then◌else◌, Option, Some, None, option_map, refl, sym, ap, ◌∙◌}
+use Rattle.std.specs.Prelude.{slice_index_or}
+use Rattle.std.specs.List.{remove}
 use Rattle.std.specs.Str.{bytes_eq}
 use Rattle.schema_definitions.proofs.Members.{same_name}
-use Rattle.ck_base.proofs.Common.{is_below, not_below, below, above}
-use Rattle.converter_definitions.specs.Gives.{Giving}
-use Rattle.program_definitions.specs.Converters.{Givings, giving_of}
-use Rattle.editor_core.specs.declared.extensions.NamedConverter.{NamedConverter}
-use Rattle.editor_core.specs.HandedIn.{givings_of, place_from}
+use Rattle.program_definitions.specs.Product.{first_named}
+use Rattle.editor_core.specs.declared.extensions.Named.{Named}
+use Rattle.editor_core.specs.HandedIn.{place_from, first_of, without_first, named_by}
 
-module _ {N : Type 0} (name_of : N → List ℕ) (value : N → Giving) (name : List ℕ) where
-  abbrev named : List N → Givings
-  named list = map (λ n. (name_of n, value n)) list
+number : Option ℕ → ℕ
+number None = 0
+number (Some n) = n
 
-  abbrev at : List N → ℕ
-  at list = position_or_len (λ n. bytes_eq (name_of n) name) list
-
-  -- the first of the name
-  first-there : (list : List N) (d : N) → at list < length list → giving_of (named list) name ≡ Some (value (slice_index_or list (at list) d))
-  first-there [] d h = absurd (omega (arith, h))
-  first-there (n ∷ list) d h = go (bytes_eq (name_of n) name) h (first-there list d)
+module _ {T : Type 0} (name : List ℕ) where
+  later : (place : ℕ) (objects : List (Named T)) → place_from (suc place) name objects ≡ option_map suc (place_from place name objects)
+  later place [] = refl
+  later place (first ∷ objects) = go (bytes_eq first.name name) (later (suc place) objects)
     where
-      next : (m : ℕ) → slice_index_or (n ∷ list) (1 + m) d ≡ slice_index_or list m d
-      next m = (let k : 1 + m ≡ suc m = omega arith in ap (λ i. slice_index_or (n ∷ list) i d) k)
-
-      go : (t : Bool) → cond (not t) (1 + at list) 0 < length (n ∷ list)
-          → (at list < length list → giving_of (named list) name ≡ Some (value (slice_index_or list (at list) d)))
-          → (if t then Some (value n) else giving_of (named list) name) ≡ Some (value (slice_index_or (n ∷ list) (cond (not t) (1 + at list) 0) d))
-      go true h rest = refl
-      go false h rest = rest (omega (arith, h)) ∙ ap (λ m. Some (value m)) (sym (next (at list)))
-
-  -- without it the others stay
-  others-stay : (list : List N) (other : List ℕ) → at list < length list → bytes_eq name other ≡ false → giving_of (named (remove list (at list))) other
-      ≡ giving_of (named list) other
-  others-stay [] other h e = absurd (omega (arith, h))
-  others-stay (n ∷ list) other h e = go (bytes_eq (name_of n) name) refl h (λ h. others-stay list other h e)
-    where
-      next : (m : ℕ) → remove (n ∷ list) (1 + m) ≡ n ∷ remove list m
-      next m = (let k : 1 + m ≡ suc m = omega arith in ap (remove (n ∷ list)) k)
-
-      go : (t : Bool) → bytes_eq (name_of n) name ≡ t → cond (not t) (1 + at list) 0 < length (n ∷ list)
-          → (at list < length list → giving_of (named (remove list (at list))) other ≡ giving_of (named list) other)
-          → giving_of (named (remove (n ∷ list) (cond (not t) (1 + at list) 0))) other ≡ giving_of (named (n ∷ list)) other
-      go true t h rest = sym (ap (λ b. if b then Some (value n) else giving_of (named list) other)
-          (ap (λ m. bytes_eq m other) (same_name (name_of n) name t) ∙ e))
-      go false t h rest =
-          ap (λ list. giving_of (named list) other) (next (at list))
-          ∙ ap (λ found. if bytes_eq (name_of n) other then Some (value n) else found) (rest (omega (arith, h)))
-
-  -- where the code finds it
-  pub found-place : (list : List N) (place : ℕ) → Some place ≡ position (λ n. bytes_eq (name_of n) name) list → (place ≡ at list) × (at list < length list)
-  found-place list place e = go (nat_lt (at list) (length list)) refl e
-    where
-      go : (t : Bool) → nat_lt (at list) (length list) ≡ t → Some place ≡ cond t (Some (at list)) None → (place ≡ at list) × (at list < length list)
-      go true t f = (cc, grind (arith, nat_tests))
-      go false t f = cc
-
-  pub taken-there : (list : List N) (place : ℕ) (d : N) → Some place ≡ position (λ n. bytes_eq (name_of n) name) list
-      → Some (value (slice_index_or list place d)) ≡ giving_of (named list) name
-  taken-there list place d e =
-      let f = found-place list place e in
-      ap (λ m. Some (value (slice_index_or list m d))) f.0 ∙ sym (first-there list d f.1)
-
-  pub others-there : (list rest : List N) (place : ℕ) (other : List ℕ) → Some place ≡ position (λ n. bytes_eq (name_of n) name) list
-      → rest ≡ remove list place → bytes_eq name other ≡ false
-      → giving_of (named rest) other ≡ giving_of (named list) other
-  others-there list rest place other e r b =
-      let f = found-place list place e in
-      ap (λ list. giving_of (named list) other) (r ∙ ap (remove list) f.0) ∙ others-stay list other f.1 b
-
-  -- where it isn't there
-  pub absent : (list : List N) → None ≡ position (λ n. bytes_eq (name_of n) name) list → None ≡ giving_of (named list) name
-  absent list e = sym (none list (go (nat_lt (at list) (length list)) refl e))
-    where
-      go : (t : Bool) → nat_lt (at list) (length list) ≡ t → None ≡ cond t (Some (at list)) None → nat_lt (at list) (length list) ≡ false
-      go true t f = cc
-      go false t f = t
-
-      none : (list : List N) → nat_lt (at list) (length list) ≡ false → giving_of (named list) name ≡ None
-      none [] h = refl
-      none (n ∷ list) h = step (bytes_eq (name_of n) name) h (none list)
-        where
-          step : (t : Bool) → nat_lt (cond (not t) (1 + at list) 0) (length (n ∷ list)) ≡ false
-              → (nat_lt (at list) (length list) ≡ false → giving_of (named list) name ≡ None)
-              → (if t then Some (value n) else giving_of (named list) name) ≡ None
-          step true h rest = absurd (let k : nat_lt 0 (suc (length list)) ≡ false = h in grind (arith, nat_tests))
-          step false h rest = rest (grind (arith, nat_tests))
-
--- ---- converters of a product, where the code sees them as a slice
-
-one-more : (m n : ℕ) (t : Bool) → nat_lt m n ≡ t → nat_lt (1 + m) (suc n) ≡ t
-one-more m n true e = (let k = is_below m n e in below (1 + m) (suc n) (omega (arith, k)))
-one-more m n false e = (let k = not_below m n e in above (1 + m) (suc n) (omega (arith, k)))
-
-module _ {X : Type 0} {Y : X → Type 0} (gives : DynBox X Global Y → Giving) (name : List ℕ) where
-  abbrev has : NamedConverter X Y → Bool
-  has converter = bytes_eq converter.name name
-
-  one-later : (place : ℕ) (list : List (NamedConverter X Y)) → place_from (suc place) name list ≡ option_map suc (place_from place name list)
-  one-later place [] = refl
-  one-later place (first ∷ list) = go (bytes_eq first.name name) (one-later (suc place) list)
-    where
-      go : (t : Bool) → place_from (suc (suc place)) name list ≡ option_map suc (place_from (suc place) name list)
-          → (if t then Some (suc place) else place_from (suc (suc place)) name list)
-          ≡ option_map suc (if t then Some place else place_from (suc place) name list)
+      go : (t : Bool) → place_from (suc (suc place)) name objects ≡ option_map suc (place_from (suc place) name objects)
+          → (if t then Some (suc place) else place_from (suc (suc place)) name objects)
+          ≡ option_map suc (if t then Some place else place_from (suc place) name objects)
       go true rest = refl
       go false rest = rest
 
-  place-is : (list : List (NamedConverter X Y)) → place_from 0 name list ≡ position has list
-  place-is [] = refl
-  place-is (first ∷ list) = go (bytes_eq first.name name) (one-later 0 list ∙ ap (option_map suc) (place-is list))
+  -- what stands at a place among others, and what is left without it
+  abbrev IsTaken : Named T → List (Named T) → ℕ → Option (Named T) → List (Named T) → Type 0
+  IsTaken other objects place taken rest = (Some (slice_index_or objects place other) ≡ taken) × (remove objects place ≡ rest)
+
+  -- what stands at the place that was found
+  pub found : (objects : List (Named T)) (place : ℕ) (other : Named T) → Some place ≡ place_from 0 name objects
+      → IsTaken other objects place (first_of name objects) (without_first name objects)
+  unfolding number
+  found [] place other e = absurd cc
+  found (first ∷ objects) place other e =
+      go (bytes_eq first.name name) (e ∙ ap (λ found. if bytes_eq first.name name then Some 0 else found) (later 0 objects))
+      (λ at is. found objects at other is)
     where
-      step : (t : Bool) (m : ℕ) → option_map suc (cond t (Some m) None) ≡ cond t (Some (suc m)) None
-      step true m = refl
-      step false m = refl
+      deeper : (found : Option ℕ) → Some place ≡ option_map suc found → found ≡ place_from 0 name objects
+          → ((at : ℕ) → Some at ≡ place_from 0 name objects → IsTaken other objects at (first_of name objects) (without_first name objects))
+          → IsTaken other (first ∷ objects) place (first_of name objects) (first ∷ without_first name objects)
+      deeper None e is inside = absurd cc
+      deeper (Some at) e is inside =
+          let rest = inside at is in
+          let same : place ≡ suc at = ap number e in (
+            ap (λ n. Some (slice_index_or (first ∷ objects) n other)) same ∙ rest.0,
+            ap (remove (first ∷ objects)) same ∙ ap (λ list. first ∷ list) rest.1,
+          )
 
-      next : (m : ℕ) → cond (nat_lt m (length list)) (Some (suc m)) None ≡ cond (nat_lt (1 + m) (length (first ∷ list))) (Some (1 + m)) None
-      next m =
-          let k : suc m ≡ 1 + m = omega arith in
-          ap (λ t. cond t (Some (suc m)) None) (sym (one-more m (length list) (nat_lt m (length list)) refl))
-          ∙ ap (λ n. cond (nat_lt (1 + m) (suc (length list))) (Some n) None) k
+      go : (t : Bool) → Some place ≡ (if t then Some 0 else option_map suc (place_from 0 name objects))
+          → ((at : ℕ) → Some at ≡ place_from 0 name objects → IsTaken other objects at (first_of name objects) (without_first name objects))
+          → IsTaken other (first ∷ objects) place (if t then Some first else first_of name objects) (if t then objects else first ∷ without_first name objects)
+      go true e inside =
+          let same : place ≡ 0 = ap number e in
+          (ap (λ n. Some (slice_index_or (first ∷ objects) n other)) same, ap (remove (first ∷ objects)) same)
+      go false e inside = deeper (place_from 0 name objects) e refl inside
 
-      go : (t : Bool) → place_from 1 name list ≡ option_map suc (position has list)
-          → (if t then Some 0 else place_from 1 name list)
-          ≡ cond (nat_lt (cond (not t) (1 + position_or_len has list) 0) (length (first ∷ list))) (Some (cond (not t) (1 + position_or_len has list) 0)) None
-      go true rest = sym (ap (λ t. cond t (Some 0) None) (below 0 (suc (length list)) (omega arith)))
-      go false rest = rest ∙ step (nat_lt (position_or_len has list) (length list)) (position_or_len has list) ∙ next (position_or_len has list)
+  -- where none has the name
+  pub absent : (objects : List (Named T)) → None ≡ place_from 0 name objects → (None ≡ first_of name objects) × (objects ≡ without_first name objects)
+  absent [] e = (refl, refl)
+  absent (first ∷ objects) e =
+      go (bytes_eq first.name name) (e ∙ ap (λ found. if bytes_eq first.name name then Some 0 else found) (later 0 objects)) (λ is. absent objects is)
+    where
+      none : (found : Option ℕ) → None ≡ option_map suc found → None ≡ found
+      none None e = refl
+      none (Some at) e = absurd cc
 
-  module _ (list slice : List (NamedConverter X Y)) (same : slice ≡ list) where
-    found : (place : Option ℕ) → place ≡ place_from 0 name slice → place ≡ position has list
-    found place e = e ∙ ap (place_from 0 name) same ∙ place-is list
+      go : (t : Bool) → None ≡ (if t then Some 0 else option_map suc (place_from 0 name objects))
+          → (None ≡ place_from 0 name objects → (None ≡ first_of name objects) × (objects ≡ without_first name objects))
+          → (None ≡ (if t then Some first else first_of name objects)) × (first ∷ objects ≡ (if t then objects else first ∷ without_first name objects))
+      go true e inside = absurd cc
+      go false e inside =
+          let rest = inside (none (place_from 0 name objects) e) in
+          (rest.0, ap (λ list. first ∷ list) rest.1)
 
-    pub taken-named : (place : ℕ) (taken : NamedConverter X Y) → Some place ≡ place_from 0 name slice → taken ≡ slice_index_or list place taken
-        → Some (gives taken.object) ≡ giving_of (givings_of gives list) name
-    taken-named place taken e is =
-        ap (λ (n : NamedConverter X Y). Some (gives n.object)) is
-        ∙ taken-there (λ n. n.name) (λ n. gives n.object) name list place taken (found (Some place) e)
+-- what an object that was taken means
+pub mapped : {T A : Type 0} (means : T → A) (taken : Option T) (found : Option (Named T)) → taken ≡ option_map (λ (named : Named T). named.object) found
+    → option_map means taken ≡ option_map (λ (named : Named T). means named.object) found
+mapped means taken None e = ap (option_map means) e
+mapped means taken (Some named) e = ap (option_map means) e
 
-    pub others-named : (place : ℕ) (rest : List (NamedConverter X Y)) → Some place ≡ place_from 0 name slice → rest ≡ remove list place
-        → (other : List ℕ) → bytes_eq name other ≡ false → giving_of (givings_of gives rest) other ≡ giving_of (givings_of gives list) other
-    others-named place rest e r other b = others-there (λ n. n.name) (λ n. gives n.object) name list rest place other (found (Some place) e) r b
+module _ {T A : Type 0} (means : T → A) (name : List ℕ) where
+  -- what the first object of a name means
+  pub means-first : (objects : List (Named T)) → option_map (λ (named : Named T). means named.object) (first_of name objects)
+      ≡ first_named (named_by means objects) name
+  means-first [] = refl
+  means-first (first ∷ objects) = go (bytes_eq first.name name) (means-first objects)
+    where
+      go : (t : Bool) → option_map (λ (named : Named T). means named.object) (first_of name objects) ≡ first_named (named_by means objects) name
+          → option_map (λ (named : Named T). means named.object) (if t then Some first else first_of name objects)
+          ≡ (if t then Some (means first.object) else first_named (named_by means objects) name)
+      go true rest = refl
+      go false rest = rest
 
-    pub absent-named : None ≡ place_from 0 name slice → None ≡ giving_of (givings_of gives list) name
-    absent-named e = absent (λ n. n.name) (λ n. gives n.object) name list (found None e)
+  -- without it the others stay
+  pub others-stay : (objects : List (Named T)) (other : List ℕ) → bytes_eq name other ≡ false
+      → first_named (named_by means (without_first name objects)) other ≡ first_named (named_by means objects) other
+  others-stay [] other e = refl
+  others-stay (first ∷ objects) other e = go (bytes_eq first.name name) refl (others-stay objects other e)
+    where
+      go : (t : Bool) → bytes_eq first.name name ≡ t
+          → first_named (named_by means (without_first name objects)) other ≡ first_named (named_by means objects) other
+          → first_named (named_by means (if t then objects else first ∷ without_first name objects)) other
+          ≡ first_named (named_by means (first ∷ objects)) other
+      go true t rest = sym (ap (λ b. if b then Some (means first.object) else first_named (named_by means objects) other)
+          (ap (λ m. bytes_eq m other) (same_name first.name name t) ∙ e))
+      go false t rest = ap (λ found. if bytes_eq first.name other then Some (means first.object) else found) rest

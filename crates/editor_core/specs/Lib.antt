@@ -1,4 +1,5 @@
 pub mod HandedIn
+pub mod Held
 pub mod AsMachine
 pub mod Tested
 pub mod Opened

@@ -1,19 +1,19 @@
 -- What the opening of an editor answers.
-use Rattle.std.specs.Prelude.{◌≡◌, ◌≢◌, List, Result, Ok, Err}
-use Rattle.std.specs.Global.{Global}
-use Rattle.std.specs.declared.dyn_box.DynBox.{DynBox}
+use Rattle.std.specs.Prelude.{◌≡◌, ◌≢◌, Result, Ok, Err}
 use Rattle.ck_base.specs.declared.faults.Refusal.{Refusal}
 use Rattle.ck_base.specs.declared.faults.Refusal.TheVariants.{NoMemory as NoMemoryForChange}
-use Rattle.converter_definitions.specs.Gives.{Giving}
 use Rattle.document_definitions.specs.Document.{Document}
 use Rattle.schema_definitions.specs.Allowed.{inline_objects}
 use Rattle.step_definitions.specs.Step.{opened}
-use Rattle.program_definitions.specs.Converters.{Givings, conversion_by}
+use Rattle.program_definitions.specs.Product.{Product}
+use Rattle.program_definitions.specs.Converters.{conversion_by}
+use Rattle.program_definitions.specs.Fixers.{terms_by}
 use Rattle.program_definitions.specs.Machine.{Config, Machine, beginning}
 use Rattle.editor_core.specs.declared.editor.Parts.{Parts}
 use Rattle.editor_core.specs.declared.editor.Editor.{Editor}
 use Rattle.editor_core.specs.declared.editor.OpenFault.{OpenFault}
 use Rattle.editor_core.specs.declared.editor.OpenFault.TheVariants.{BadStart, NoMemory}
+use Rattle.editor_core.specs.HandedIn.{Meanings}
 use Rattle.editor_core.specs.AsMachine.{machine_of, IsCurrent}
 
 -- the machine on the document that is opened, or why it can't be
@@ -21,16 +21,16 @@ abbrev pub begun : Config → Result Document Refusal → Result Machine Refusal
 begun config (Ok document) = Ok (beginning config document)
 begun config (Err refusal) = Err refusal
 
--- what an editor's parts say of its document's editing and showing, where these converters are handed in
-abbrev pub config_of : Givings → Parts → Config
-config_of givings parts = record {
-  terms = record { rules = parts.schema };
-  conversion = conversion_by givings parts.version parts.converters.items (inline_objects parts.schema) parts.indexed.items;
+-- what an editor's parts say of its document's editing and showing, where a product adds this
+abbrev pub config_of : Product → Parts → Config
+config_of product parts = record {
+  terms = terms_by product.fixers parts.schema parts.fixers.items parts.rounds;
+  conversion = conversion_by product.converters parts.version parts.converters.items (inline_objects parts.schema) parts.indexed.items;
 }
 
 -- the machine of an editor of these parts that is opened, or why its start is refused
-abbrev pub started : Givings → Parts → Result Machine Refusal
-started givings parts = begun (config_of givings parts) (opened (config_of givings parts).terms parts.start)
+abbrev pub started : Product → Parts → Result Machine Refusal
+started product parts = begun (config_of product parts) (opened (config_of product parts).terms parts.start)
 
 -- the fault of an opening that is refused so
 abbrev pub Faults : Refusal → OpenFault → Type 0
@@ -38,7 +38,7 @@ Faults refusal (BadStart told) = (told ≡ refusal) × (refusal ≢ NoMemoryForC
 Faults refusal NoMemory = refusal ≡ NoMemoryForChange
 
 -- an editor is answered exactly where a machine is wanted, and is that; else its refusal, which isn't want of memory; unless memory ran out
-abbrev pub Opens : {X : Type 0} {Y : X → Type 0} → (DynBox X Global Y → Giving) → Result Machine Refusal → Result (Editor X Y) OpenFault → Type 0
-Opens gives wanted (Ok editor) = (wanted ≡ Ok (machine_of gives editor)) × IsCurrent gives editor
-Opens gives wanted (Err (BadStart refusal)) = (wanted ≡ Err refusal) × (refusal ≢ NoMemoryForChange)
-Opens gives wanted (Err NoMemory) = Unit {0}
+abbrev pub Opens : {X Z : Type 0} {Y : X → Type 0} {W : Z → Type 0} → Meanings X Z Y W → Result Machine Refusal → Result (Editor X Z Y W) OpenFault → Type 0
+Opens meanings wanted (Ok editor) = (wanted ≡ Ok (machine_of meanings editor)) × IsCurrent meanings editor
+Opens meanings wanted (Err (BadStart refusal)) = (wanted ≡ Err refusal) × (refusal ≢ NoMemoryForChange)
+Opens meanings wanted (Err NoMemory) = Unit {0}

@@ -1,5 +1,5 @@
 //! The editor.
-ghost use Rattle.std.specs.Prelude.{◌≡◌, ◌≤◌, [], ◌∷◌, ◌++◌, take, None, Ok, Err, IfOk, IfErr, OnErr, ◌≢◌};
+ghost use Rattle.std.specs.Prelude.{◌≡◌, ◌≤◌, ◌+◌, [], ◌∷◌, ◌++◌, take, None, Ok, Err, IfOk, IfErr, OnOk, OnErr, ◌≢◌};
 ghost use Rattle.document_definitions.specs.Document.{ids_of};
 ghost use Rattle.view_definitions.specs.Node.{content, uncounted};
 ghost use Rattle.conv_rules.specs.Listed.{conversion_of};
@@ -9,14 +9,17 @@ ghost use Rattle.downcast_definitions.specs.Numbered.{AreNumbered};
 ghost use Rattle.step_definitions.specs.Step.{step, opening, empty_document};
 ghost use Rattle.program_definitions.specs.Machine as machine;
 ghost use Rattle.program_definitions.specs.Selecting.{selecting};
-ghost use Rattle.editor_core.specs.AsMachine.{conversion_in, document_in, numbers_in, machine_of, IsCurrent, Moves};
-ghost use Rattle.editor_core.specs.HandedIn.{givings_of, AreHandedIn};
+ghost use Rattle.editor_core.specs.AsMachine.{conversion_in, document_in, numbers_in, calls_for_view, IsCurrent, Changes};
+ghost use Rattle.editor_core.specs.HandedIn.{meanings, product_of, AreHandedIn};
+ghost use Rattle.editor_core.specs.Held.{terms_of};
 ghost use Rattle.editor_core.specs.Opened.{Faults, Opens, begun, started};
 
 use crate::changing::changed;
 use crate::extensions::Extensions;
+use crate::fixing::fixers_of_plans;
 use crate::listing::list_of;
 use crate::selecting::{position_of, select_from};
+use crate::terms::Terms;
 use ck_base::NoMemory;
 use ck_base::attributes::Attrs;
 use ck_base::faults::Refusal;
@@ -26,6 +29,7 @@ use ck_base::steps::{Ledger, Steps};
 use conv_rules::list::ConverterList;
 use converter_definitions::plan::ConverterPlan;
 use edit_definitions::edit::Edit;
+use fix_definitions::plan::FixerPlan;
 use model_doc::Document;
 use model_pos::Position;
 use model_tree::id::ElementId;
@@ -42,8 +46,12 @@ pub struct Parts {
     pub schema: Schema,
     /// The version of the settings, 1 or 2: in 2 a layer of the view joins the first kept one that agrees with it.
     pub version: u32,
+    /// In how many rounds the fixers have to come to rest.
+    pub rounds: u32,
     /// The item of the element that a new document has.
     pub start: Option<Name>,
+    /// The fixers, in the order of the settings.
+    pub fixers: Vec<FixerPlan>,
     /// The converters, in the order of the settings.
     pub converters: Vec<ConverterPlan>,
     /// The names of the elements that are counted for the converters.
@@ -62,11 +70,11 @@ pub enum OpenFault {
 /// How many changes an editor accepts.
 const MOST_CHANGES: u32 = 4_294_967_295;
 
-/// An editor: a document that obeys a schema, and the view that its converters make of it. Its calls are steps of the machine that it is.
+/// An editor: a document that obeys a schema and is settled, and the view that its converters make of it. Its calls are steps of the machine that it is.
 #[derive(Drop)]
 pub struct Editor {
     pub(crate) list: ConverterList,
-    pub(crate) schema: Schema,
+    pub(crate) terms: Terms,
     pub(crate) document: Document,
     pub(crate) view: View,
     pub(crate) mapper: Mapper,
@@ -118,25 +126,30 @@ fn open_fault(refusal: Refusal) -> OpenFault
     }
 }
 
-/// An editor of a schema and converters, whose document starts with these edits.
+/// An editor of terms and converters, whose document starts with these edits.
 fn opened<L: Ledger>(
     alloc: Global,
-    schema: Schema,
+    terms: Terms,
     list: ConverterList,
     edits: &[Edit],
     steps: &mut Steps<L>,
 ) -> Result<Editor, OpenFault>
-    ensures { Opens (λ object. gives (object.vtable, object.value))
-        (begun (record { terms = record { rules = schema }; conversion = conversion_of (λ object. gives (object.vtable, object.value)) list })
-        (step (record { rules = schema }) edits.now empty_document)) result }
+    ensures opens { Opens (meanings (λ object. gives (object.vtable, object.value)) (λ object. fixes (object.vtable, object.value)))
+        (begun (record {
+          terms = terms_of (λ object. fixes (object.vtable, object.value)) terms;
+          conversion = conversion_of (λ object. gives (object.vtable, object.value)) list;
+        })
+        (step (terms_of (λ object. fixes (object.vtable, object.value)) terms) edits.now empty_document)) result }
+    ensures calls { IfOk result (λ editor. steps.new ≤ steps.old + calls_for_view (λ object. gives (object.vtable, object.value)) editor) }
+    ensures no_calls { IfErr result (λ fault. fault ≢ OpenFault.NoMemory → steps.new ≡ steps.old) }
 {
     let Ok(mut document) = Document::new(alloc, 1) else {
         return Err(OpenFault::NoMemory);
     };
-    match changed(alloc, &mut document, &schema, &list, edits, steps) {
+    match changed(alloc, &mut document, &terms, &list, edits, steps) {
         Ok((view, mapper)) => Ok(Editor {
             list,
-            schema,
+            terms,
             document,
             view,
             mapper,
@@ -147,48 +160,70 @@ fn opened<L: Ledger>(
 }
 
 impl Editor {
-    /// Opens an editor. Its document has one empty element of the start's name, with id 1 and the selection in it, or no item where there is no
-    /// start. Each product's converter that the settings name is handed in, and named once. It answers `BadStart` exactly where the schema, or an
-    /// edit, refuses that document, and `NoMemory`.
+    /// Opens an editor by a change of an empty document: it makes one empty element of the start's name, with id 1 and the selection in it, or nothing
+    /// where there is no start; then the fixers come to rest, and the schema is tested. Each product's converter and fixer that the settings name is
+    /// handed in, and named once. It answers `BadStart` exactly where that change is refused, and `NoMemory`.
     pub fn open<L: Ledger>(
         alloc: Global,
         parts: Parts,
         extensions: Extensions,
         steps: &mut Steps<L>,
     ) -> Result<Editor, OpenFault>
-        requires { AreHandedIn parts.converters.items (givings_of (λ object. gives object) extensions.converters.items) }
-        ensures { Opens (λ object. gives object) (started (givings_of (λ object. gives object) extensions.converters.items) parts) result }
+        requires { AreHandedIn parts.converters.items parts.fixers.items
+            (product_of (meanings (λ object. gives object) (λ object. fixes object)) extensions) }
+        ensures opens { Opens (meanings (λ object. gives object) (λ object. fixes object))
+            (started (product_of (meanings (λ object. gives object) (λ object. fixes object)) extensions) parts) result }
+        ensures calls { IfOk result (λ editor. steps.new ≤ steps.old + calls_for_view (λ object. gives object) editor) }
+        ensures no_calls { IfErr result (λ fault. fault ≢ OpenFault.NoMemory → steps.new ≡ steps.old) }
     {
         let Parts {
             schema,
             version,
+            rounds,
             start,
+            fixers,
             converters,
             indexed,
         } = parts;
+        let Extensions {
+            converters: objects,
+            fixers: fixing_objects,
+        } = extensions;
         let Ok(edits) = opening(alloc, start) else {
             return Err(OpenFault::NoMemory);
         };
-        let Ok(list) = list_of(alloc, &schema, version, converters, indexed, extensions) else {
+        let Ok(list) = list_of(alloc, &schema, version, converters, indexed, objects) else {
             return Err(OpenFault::NoMemory);
         };
-        opened(alloc, schema, list, edits.as_slice(), steps)
+        let Ok(fixers) = fixers_of_plans(alloc, fixers, fixing_objects) else {
+            return Err(OpenFault::NoMemory);
+        };
+        let terms = Terms {
+            schema,
+            fixers,
+            rounds,
+        };
+        opened(alloc, terms, list, edits.as_slice(), steps)
     }
 
-    /// Makes a change: its edits in order, and then the test of the schema. It answers `ChangesSpent` exactly where 4,294,967,295 changes were
-    /// accepted; `Edit` with the first edit that can't be made; `Schema` with the first breach of the document then; and `NoMemory`. After
-    /// each of these the editor is as it was: the document with its markers, its selection and its next id, and the view.
+    /// Makes a change: its edits in order, then rounds of fixers until none wants anything, and then the test of the schema. It answers `ChangesSpent`
+    /// exactly where 4,294,967,295 changes were accepted; `Edit` with the first edit that can't be made; `FixerRefused` with the fixer whose plan has
+    /// an edit that can't be made; `NotSettled` with the first fixer that still wants something after all rounds; `Schema` with the first breach of the
+    /// document then; and `NoMemory`. After each of these the editor is as it was: the document with its markers, its selection and its next id, and
+    /// the view.
     pub fn change<L: Ledger>(
         &mut self,
         alloc: Global,
         edits: &[Edit],
         steps: &mut Steps<L>,
     ) -> Result<(), Refusal>
-        requires { IsCurrent (λ object. gives (object.vtable, object.value)) self.old }
-        ensures current { IsCurrent (λ object. gives (object.vtable, object.value)) self.new }
-        ensures moves { Moves (machine.change edits.now (machine_of (λ object. gives (object.vtable, object.value)) self.old))
-            (machine_of (λ object. gives (object.vtable, object.value)) self.new) result }
+        requires { IsCurrent (meanings (λ object. gives (object.vtable, object.value)) (λ object. fixes (object.vtable, object.value))) self.old }
+        ensures current { IsCurrent (meanings (λ object. gives (object.vtable, object.value)) (λ object. fixes (object.vtable, object.value))) self.new }
+        ensures changes { Changes (meanings (λ object. gives (object.vtable, object.value)) (λ object. fixes (object.vtable, object.value)))
+            (machine.change edits.now) self.old self.new result }
         ensures stays { OnErr result (self.new ≡ self.old) }
+        ensures calls { OnOk result (steps.new ≤ steps.old + calls_for_view (λ object. gives (object.vtable, object.value)) self.new) }
+        ensures no_calls { IfErr result (λ refusal. refusal ≢ Refusal.NoMemory → steps.new ≡ steps.old) }
     {
         if self.accepted == MOST_CHANGES {
             return Err(Refusal::ChangesSpent);
@@ -197,7 +232,7 @@ impl Editor {
         match changed(
             alloc,
             &mut self.document,
-            &self.schema,
+            &self.terms,
             &self.list,
             edits,
             steps,
@@ -227,12 +262,13 @@ impl Editor {
         focus: &ViewPlace,
         steps: &mut Steps<L>,
     ) -> Result<(), Refusal>
-        requires { IsCurrent (λ object. gives (object.vtable, object.value)) self.old }
-        ensures current { IsCurrent (λ object. gives (object.vtable, object.value)) self.new }
-        ensures moves { Moves (machine.select_view (anchor.now.path ++ anchor.now.offset ∷ []) (focus.now.path ++ focus.now.offset ∷ [])
-            (machine_of (λ object. gives (object.vtable, object.value)) self.old)) (machine_of (λ object. gives (object.vtable, object.value)) self.new)
-            result }
+        requires { IsCurrent (meanings (λ object. gives (object.vtable, object.value)) (λ object. fixes (object.vtable, object.value))) self.old }
+        ensures current { IsCurrent (meanings (λ object. gives (object.vtable, object.value)) (λ object. fixes (object.vtable, object.value))) self.new }
+        ensures changes { Changes (meanings (λ object. gives (object.vtable, object.value)) (λ object. fixes (object.vtable, object.value)))
+            (machine.select_view (anchor.now.path ++ anchor.now.offset ∷ []) (focus.now.path ++ focus.now.offset ∷ [])) self.old self.new result }
         ensures stays { OnErr result (self.new ≡ self.old) }
+        ensures calls { OnOk result (steps.new ≤ steps.old + calls_for_view (λ object. gives (object.vtable, object.value)) self.new) }
+        ensures no_calls { IfErr result (λ refusal. refusal ≢ Refusal.NoMemory → steps.new ≡ steps.old) }
     {
         if self.accepted == MOST_CHANGES {
             return Err(Refusal::ChangesSpent);
@@ -248,7 +284,7 @@ impl Editor {
         anchor: &ViewPlace,
         focus: &ViewPlace,
     ) -> Result<Vec<Edit>, Refusal>
-        requires { IsCurrent (λ object. gives (object.vtable, object.value)) self.now }
+        requires { IsCurrent (meanings (λ object. gives (object.vtable, object.value)) (λ object. fixes (object.vtable, object.value))) self.now }
         ensures ok { IfOk result (λ edits. selecting (conversion_in (λ object. gives (object.vtable, object.value)) self.now) (document_in self.now)
             (anchor.now.path ++ anchor.now.offset ∷ []) (focus.now.path ++ focus.now.offset ∷ []) ≡ Ok edits.items) }
         ensures refused { IfErr result (λ refusal. refusal ≢ Refusal.NoMemory
@@ -273,7 +309,7 @@ impl Editor {
 
     /// The view of its document, in which each element of the document has the number that `view_number` answers. It takes no memory.
     pub fn view(&self) -> &View
-        requires { IsCurrent (λ object. gives (object.vtable, object.value)) self.now }
+        requires { IsCurrent (meanings (λ object. gives (object.vtable, object.value)) (λ object. fixes (object.vtable, object.value))) self.now }
         ensures content { content result.now.nodes ≡ downcast (conversion_in (λ object. gives (object.vtable, object.value)) self.now) (document_in self.now) }
         ensures numbered { uncounted result.now.nodes
             ≡ uncounted (numbered_downcast (numbers_in self.now) (conversion_in (λ object. gives (object.vtable, object.value)) self.now)
@@ -285,7 +321,7 @@ impl Editor {
     /// The number of the view element of an element of its document: None exactly where no element of the document has the id. No two elements have
     /// one number. It takes no memory.
     pub fn view_number(&self, id: ElementId) -> Option<ViewNumber>
-        requires { IsCurrent (λ object. gives (object.vtable, object.value)) self.now }
+        requires { IsCurrent (meanings (λ object. gives (object.vtable, object.value)) (λ object. fixes (object.vtable, object.value))) self.now }
         ensures number { result ≡ numbers_in self.now id }
         ensures numbered { AreNumbered (numbers_in self.now) (ids_of (document_in self.now).items) }
     {
@@ -294,7 +330,7 @@ impl Editor {
 
     /// Where the view shows the start and the end of the selection. It answers `NoMemory` alone beside Ok.
     pub fn shown_selection(&self, alloc: Global) -> Result<(ViewPlace, ViewPlace), NoMemory>
-        requires { IsCurrent (λ object. gives (object.vtable, object.value)) self.now }
+        requires { IsCurrent (meanings (λ object. gives (object.vtable, object.value)) (λ object. fixes (object.vtable, object.value))) self.now }
         ensures start { IfOk result (λ both. both.0.path ++ both.0.offset ∷ []
             ≡ seen (conversion_in (λ object. gives (object.vtable, object.value)) self.now) (document_in self.now)
             (document_in self.now).selection.range.start) }

@@ -1,14 +1,16 @@
 //! From the converters of settings to the list of an editor.
-ghost use Rattle.std.specs.Prelude.{◌≡◌, ◌<◌, ◌==◌, ℕ, List, [], map, length, false, None, IfOk, IfSome, OnOk, option_map};
+ghost use Rattle.std.specs.Prelude.{◌≡◌, ◌==◌, ℕ, List, [], false, option_map, None, IfOk, OnOk};
 ghost use Rattle.std.specs.Str.{bytes_eq};
-ghost use Rattle.converter_definitions.specs.PlanNames.{is_custom};
+ghost use Rattle.converter_definitions.specs.PlanNames.{is_custom, first_unknown_custom};
 ghost use Rattle.schema_definitions.specs.Allowed.{inline_objects};
 ghost use Rattle.converter_definitions.specs.Priority.{added};
 ghost use Rattle.conv_rules.specs.Listed.{listed_of, conversion_of};
-ghost use Rattle.program_definitions.specs.Converters.{giving_of, converter_of, all_added, names_of, conversion_by};
-ghost use Rattle.editor_core.specs.HandedIn.{givings_of, place_from, IsThere, AreHandedIn};
+ghost use Rattle.program_definitions.specs.Product.{first_named, names_of};
+ghost use Rattle.program_definitions.specs.Converters.{converter_of, all_added, conversion_by};
+ghost use Rattle.editor_core.specs.HandedIn.{named_by, IsThere};
 
-use crate::extensions::{Extensions, NamedConverter};
+use crate::extensions::Named;
+use crate::naming::take_named;
 use ck_base::NoMemory;
 use ck_base::name::Name;
 use conv_rules::converter::Converter;
@@ -17,52 +19,39 @@ use converter_definitions::plan::{ConverterPlan, PlanEntry};
 use schema_rules::schema::Schema;
 use std::alloc::Global;
 
-/// The place of the first converter of a name: None exactly where there is none.
-fn place_of(converters: &[NamedConverter], name: &Name) -> Option<usize>
-    ensures place { result ≡ place_from 0 name.now converters.now }
-    ensures inside { IfSome result (λ place. place < length converters.now) }
-{
-    for (place, converter) in converters.iter().enumerate() {
-        if converter.name.as_str() == name.as_str() {
-            return Some(place);
-        }
-    }
-    None
-}
-
 /// Takes the first converter of a name out: None exactly where there is none.
-fn take_named(converters: &mut Vec<NamedConverter>, name: &Name) -> Option<Box<dyn Converter>>
-    ensures object { option_map (λ object. gives object) result ≡ giving_of (givings_of (λ object. gives object) converters.old.items) name.now }
+fn take_converter(
+    converters: &mut Vec<Named<Box<dyn Converter>>>,
+    name: &Name,
+) -> Option<Box<dyn Converter>>
+    ensures object { option_map (λ object. gives object) result ≡ first_named (named_by (λ object. gives object) converters.old.items) name.now }
     ensures others { (other : List ℕ) → bytes_eq name.now other ≡ false
-        → giving_of (givings_of (λ object. gives object) converters.new.items) other
-        ≡ giving_of (givings_of (λ object. gives object) converters.old.items) other }
+        → first_named (named_by (λ object. gives object) converters.new.items) other
+        ≡ first_named (named_by (λ object. gives object) converters.old.items) other }
 {
-    match place_of(converters.as_slice(), name) {
-        Some(place) => Some(converters.remove(place).object),
-        None => None,
-    }
+    take_named(converters, name)
 }
 
 /// Adds a converter of the settings; a product's one is taken out of those that are handed in.
 fn add_plan(
     list: &mut ConverterList,
     plan: ConverterPlan,
-    converters: &mut Vec<NamedConverter>,
+    converters: &mut Vec<Named<Box<dyn Converter>>>,
 ) -> Result<(), NoMemory>
-    requires { IsThere plan.entry (givings_of (λ object. gives object) converters.old.items) }
+    requires { IsThere plan.entry (named_by (λ object. gives object) converters.old.items) }
     ensures ok { OnOk result (listed_of (λ object. gives object) list.new
-        ≡ added (plan.priority, converter_of (givings_of (λ object. gives object) converters.old.items) plan.entry)
+        ≡ added (plan.priority, converter_of (named_by (λ object. gives object) converters.old.items) plan.entry)
         (listed_of (λ object. gives object) list.old)) }
     ensures rest { record (conversion_of (λ object. gives object) list.new) { converters = [] }
         ≡ record (conversion_of (λ object. gives object) list.old) { converters = [] } }
     ensures others { (other : List ℕ) → is_custom plan.entry other ≡ false
-        → giving_of (givings_of (λ object. gives object) converters.new.items) other
-        ≡ giving_of (givings_of (λ object. gives object) converters.old.items) other }
+        → first_named (named_by (λ object. gives object) converters.new.items) other
+        ≡ first_named (named_by (λ object. gives object) converters.old.items) other }
 {
     let ConverterPlan { priority, entry } = plan;
     match entry {
         PlanEntry::Stock(converter) => list.add(priority, Entry::Stock(converter)),
-        PlanEntry::Boxed { name, .. } => match take_named(converters, &name) {
+        PlanEntry::Boxed { name, .. } => match take_converter(converters, &name) {
             Some(object) => list.add(priority, Entry::Boxed { name, object }),
             None => unreachable!(),
         },
@@ -73,11 +62,11 @@ fn add_plan(
 fn with_plans(
     list: ConverterList,
     plans: Vec<ConverterPlan>,
-    converters: Vec<NamedConverter>,
+    converters: Vec<Named<Box<dyn Converter>>>,
 ) -> Result<ConverterList, NoMemory>
-    requires { AreHandedIn plans.items (givings_of (λ object. gives object) converters.items) }
+    requires { first_unknown_custom (names_of (named_by (λ object. gives object) converters.items)) plans.items ≡ None }
     ensures converters { IfOk result (λ made. listed_of (λ object. gives object) made
-        ≡ all_added (givings_of (λ object. gives object) converters.items) (listed_of (λ object. gives object) list) plans.items) }
+        ≡ all_added (named_by (λ object. gives object) converters.items) (listed_of (λ object. gives object) list) plans.items) }
     ensures rest { IfOk result (λ made. record (conversion_of (λ object. gives object) made) { converters = [] }
         ≡ record (conversion_of (λ object. gives object) list) { converters = [] }) }
 {
@@ -90,19 +79,19 @@ fn with_plans(
 }
 
 /// The list of an editor of a schema, from the converters of settings of a version, where these converters are handed in.
-pub fn list_of(
+pub(crate) fn list_of(
     alloc: Global,
     schema: &Schema,
     version: u32,
     plans: Vec<ConverterPlan>,
     indexed: Vec<Name>,
-    extensions: Extensions,
+    converters: Vec<Named<Box<dyn Converter>>>,
 ) -> Result<ConverterList, NoMemory>
-    requires { AreHandedIn plans.items (givings_of (λ object. gives object) extensions.converters.items) }
+    requires { first_unknown_custom (names_of (named_by (λ object. gives object) converters.items)) plans.items ≡ None }
     ensures { IfOk result (λ list. conversion_of (λ object. gives object) list
-        ≡ conversion_by (givings_of (λ object. gives object) extensions.converters.items) version plans.items (inline_objects schema.now) indexed.items) }
+        ≡ conversion_by (named_by (λ object. gives object) converters.items) version plans.items (inline_objects schema.now) indexed.items) }
 {
     let objects = schema.inline_objects()?;
     let list = ConverterList::new(alloc, objects, version == 2, indexed);
-    with_plans(list, plans, extensions.converters)
+    with_plans(list, plans, converters)
 }

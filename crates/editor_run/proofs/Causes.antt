@@ -3,14 +3,14 @@ use Rattle.std.proofs.Common.{◌≡◌, ◌≢◌, ◌⊎◌, inl, inr, ℕ, Li
 use Rattle.std.proofs.Common.{refl, sym, ap, ◌∙◌, arith}
 use Rattle.ck_base.specs.declared.faults.Refusal.{Refusal}
 use Rattle.document_definitions.specs.Document.{Document}
-use Rattle.settings_definitions.specs.Settings.{Settings, settings_of}
+use Rattle.settings_definitions.specs.Settings.{Settings}
 use Rattle.settings_definitions.specs.declared.fault.SettingsFault.{SettingsFault}
 use Rattle.step_definitions.specs.Step.{opened}
-use Rattle.program_definitions.specs.Converters.{Givings, names_of}
-use Rattle.program_definitions.specs.Task.{Task, run, check, task_of, settings_name}
+use Rattle.program_definitions.specs.Product.{Product}
+use Rattle.program_definitions.specs.Task.{Task, run, check, task_of}
 use Rattle.program_definitions.specs.Machine.{Config, Machine, answers}
-use Rattle.program_definitions.specs.Output.{Outcome, silent, finished, done, script_outcome, begun, machine_of, machine_from, config_of, outcome_of, output}
-use Rattle.program_definitions.specs.Output.{most_script_bytes, most_settings_bytes}
+use Rattle.program_definitions.specs.Output.{silent, finished, done, script_outcome, begun, machine_of, machine_from, config_of, outcome_of, output}
+use Rattle.program_definitions.specs.Output.{most_script_bytes, most_settings_bytes, settings_in}
 use Rattle.machine_definitions.specs.Lines.{lines_of}
 use Rattle.editor_run.specs.declared.run.Status.{Status}
 use Rattle.editor_run.specs.declared.run.Status.TheVariants.{Finished, Refused, BadWords, NoMemory, NotFetched, NotWritten, TooLarge}
@@ -26,7 +26,7 @@ script_four machine (Some script) e = go (nat_lt most_script_bytes (length scrip
     go true e = absurd (omega (arith, e))
     go false e = absurd (omega (arith, e))
 
-module _ (givings : Givings) (held : List ℕ → Option (List ℕ)) (task : Task) where
+module _ (product : Product) (held : List ℕ → Option (List ℕ)) (task : Task) where
   abbrev IsDone : Type 0
   IsDone = (machine : Machine) × ((done held task machine).status ≡ 4)
 
@@ -34,31 +34,31 @@ module _ (givings : Givings) (held : List ℕ → Option (List ℕ)) (task : Tas
   begun_four config (Ok document) e = (_, e)
   begun_four config (Err refusal) e = absurd (omega (arith, e))
 
-  settings_four : (read : Result Settings SettingsFault) → (finished held task (machine_of givings read)).status ≡ 4 → IsDone
-  settings_four (Ok settings) e = begun_four (config_of givings settings) (opened (config_of givings settings).terms settings.start) e
+  settings_four : (read : Result Settings SettingsFault) → (finished held task (machine_of product read)).status ≡ 4 → IsDone
+  settings_four (Ok settings) e = begun_four (config_of product settings) (opened (config_of product settings).terms settings.start) e
   settings_four (Err fault) e = absurd (omega (arith, e))
 
-  bytes_four : (found : Option (List ℕ)) → (finished held task (machine_from givings found)).status ≡ 4 → (found ≡ None) ⊎ IsDone
+  bytes_four : (found : Option (List ℕ)) → (finished held task (machine_from product found)).status ≡ 4 → (found ≡ None) ⊎ IsDone
   bytes_four None e = inl refl
   bytes_four (Some bytes) e = go (nat_lt most_settings_bytes (length bytes)) e
     where
-      go : (large : Bool) → (finished held task (if large then Err (silent 6) else machine_of givings (settings_of (names_of givings) bytes))).status
+      go : (large : Bool) → (finished held task (if large then Err (silent 6) else machine_of product (settings_in product bytes))).status
           ≡ 4 → (Some bytes ≡ None) ⊎ IsDone
       go true e = absurd (omega (arith, e))
-      go false e = inr (settings_four (settings_of (names_of givings) bytes) e)
+      go false e = inr (settings_four (settings_in product bytes) e)
 
 -- a run ends with 4 only where a file that the words name isn't held
-four_missing : (givings : Givings) (held : List ℕ → Option (List ℕ)) (asked : Option Task) → (outcome_of givings held asked).status ≡ 4
+four_missing : (product : Product) (held : List ℕ → Option (List ℕ)) (asked : Option Task) → (outcome_of product held asked).status ≡ 4
     → IsMissing (Some held) asked
-four_missing givings held None e = absurd (omega (arith, e))
-four_missing givings held (Some (run settings script)) e = go (bytes_four givings held (run settings script) (held settings) e)
+four_missing product held None e = absurd (omega (arith, e))
+four_missing product held (Some (run settings script)) e = go (bytes_four product held (run settings script) (held settings) e)
   where
-    go : (held settings ≡ None) ⊎ IsDone givings held (run settings script) → IsMissing (Some held) (Some (run settings script))
+    go : (held settings ≡ None) ⊎ IsDone product held (run settings script) → IsMissing (Some held) (Some (run settings script))
     go (inl none) = inl none
     go (inr machine) = inr (script_four machine.0 (held script) machine.1)
-four_missing givings held (Some (check settings)) e = go (bytes_four givings held (check settings) (held settings) e)
+four_missing product held (Some (check settings)) e = go (bytes_four product held (check settings) (held settings) e)
   where
-    go : (held settings ≡ None) ⊎ IsDone givings held (check settings) → IsMissing (Some held) (Some (check settings))
+    go : (held settings ≡ None) ⊎ IsDone product held (check settings) → IsMissing (Some held) (Some (check settings))
     go (inl none) = none
     go (inr machine) = absurd (omega (arith, machine.1))
 
@@ -79,15 +79,15 @@ not_written : NotFetched ≢ NotWritten
 not_written e = absurd cc
 
 -- and so a run whose fetches have not failed
-pub run_missing : (calls : Calls) (givings : Givings) (words : List (List ℕ)) (status : Status) → Ends calls (λ held. output givings words held) status
+pub run_missing : (calls : Calls) (product : Product) (words : List (List ℕ)) (status : Status) → Ends calls (λ held. output product words held) status
     → status ≡ NotFetched → IsFetched calls → IsMissing calls.held (task_of words)
-run_missing calls givings words status ends e calm = go calls.held ends.output (ends.missing e calm)
+run_missing calls product words status ends e calm = go calls.held ends.output (ends.missing e calm)
   where
     go : (holds : Option (List ℕ → Option (List ℕ)))
         → IfSome holds (λ held. status ≢ NoMemory → status ≢ NotWritten → (status ≡ NotFetched → IsFetched calls)
-        → IsOutcome calls.written calls.written_then (status_code status) (output givings words held))
+        → IsOutcome calls.written calls.written_then (status_code status) (output product words held))
         → IsTelling holds → IsMissing holds (task_of words)
     go None out told = absurd told
     go (Some held) out told =
-        four_missing givings held (task_of words)
+        four_missing product held (task_of words)
         (sym (out (λ m. absurd (no_memory (sym e ∙ m))) (λ w. absurd (not_written (sym e ∙ w))) (λ f. calm)).0 ∙ ap status_code e)

@@ -3,7 +3,6 @@ pub mod Words
 pub mod Sending
 pub mod Starting
 pub mod Told
-pub mod Ascii
 pub mod Printed
 pub mod Names
 pub mod FromBytes

@@ -5,5 +5,3 @@ pub mod Ends
 pub mod Unopened
 pub mod Unanswered
 pub mod Answered
-pub mod Extensions
-pub mod Lawful

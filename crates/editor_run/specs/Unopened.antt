@@ -1,9 +1,7 @@
 -- How a run ends where no editor is opened.
 use Rattle.std.specs.Prelude.{◌≡◌, ◌⊎◌, ℕ, List, Option, Result, Ok, Err, string_bytes}
-use Rattle.std.specs.Global.{Global}
-use Rattle.std.specs.declared.dyn_box.DynBox.{DynBox}
-use Rattle.converter_definitions.specs.Gives.{Giving}
 use Rattle.editor_core.specs.declared.editor.Editor.{Editor}
+use Rattle.editor_core.specs.HandedIn.{Meanings}
 use Rattle.editor_core.specs.AsMachine.{machine_of, IsCurrent}
 use Rattle.program_definitions.specs.Machine.{Machine}
 use Rattle.program_definitions.specs.Output.{Outcome, silent, refused}
@@ -29,6 +27,7 @@ IsTold (Refused text) written written_then writes writes_then status =
     Tells (string_bytes text) statuses.Refused written written_then writes writes_then status × ((status ≡ statuses.Refused) ⊎ (status ≡ statuses.NotWritten))
 
 -- an editor is opened where a machine is wanted, is that, and has the view of its document; else the end is the one that is wanted
-abbrev pub Opens : {X : Type 0} {Y : X → Type 0} → (DynBox X Global Y → Giving) → Result Machine Outcome → Result (Editor X Y) Unopened → Type 0
-Opens gives wanted (Ok editor) = (wanted ≡ Ok (machine_of gives editor)) × IsCurrent gives editor
-Opens gives wanted (Err fault) = IsEnd fault wanted
+abbrev pub Opens : {X Z : Type 0} {Y : X → Type 0} {W : Z → Type 0} → Meanings X Z Y W → Result Machine Outcome
+    → Result (Editor X Z Y W) Unopened → Type 0
+Opens meanings wanted (Ok editor) = (wanted ≡ Ok (machine_of meanings editor)) × IsCurrent meanings editor
+Opens meanings wanted (Err fault) = IsEnd fault wanted

@@ -1,8 +1,9 @@
 //! The answer to one line of a script.
 ghost use Rattle.std.specs.Prelude.{◌≡◌, ◌++◌, ◌∷◌, []};
-ghost use Rattle.editor_core.specs.AsMachine.{machine_of, IsCurrent};
+ghost use Rattle.editor_core.specs.HandedIn.{meanings};
+ghost use Rattle.editor_core.specs.AsMachine.{IsCurrent};
 ghost use Rattle.program_definitions.specs.Machine.{answer, change, refusal_of, select_view, told};
-ghost use Rattle.editor_run.specs.Answered.{IsAnswered};
+ghost use Rattle.editor_run.specs.Answered.{IsAnsweredBy};
 
 use crate::lines::is_blank;
 use crate::printing::{accepted_line, refused_line, shown_lines};
@@ -36,11 +37,10 @@ fn answer_change<L: Ledger>(
     edits: &[Edit],
     steps: &mut Steps<L>,
 ) -> Result<String, NoMemory>
-    requires { IsCurrent (λ object. gives (object.vtable, object.value)) editor.old }
-    ensures answered { IsAnswered (told (machine_of (λ object. gives (object.vtable, object.value)) editor.old) number
-        (change edits.now (machine_of (λ object. gives (object.vtable, object.value)) editor.old)))
-        (machine_of (λ object. gives (object.vtable, object.value)) editor.new) result }
-    ensures current { IsCurrent (λ object. gives (object.vtable, object.value)) editor.new }
+    requires { IsCurrent (meanings (λ object. gives (object.vtable, object.value)) (λ object. fixes (object.vtable, object.value))) editor.old }
+    ensures answered { IsAnsweredBy (meanings (λ object. gives (object.vtable, object.value)) (λ object. fixes (object.vtable, object.value)))
+        (λ machine. told machine number (change edits.now machine)) editor.old editor.new result }
+    ensures current { IsCurrent (meanings (λ object. gives (object.vtable, object.value)) (λ object. fixes (object.vtable, object.value))) editor.new }
 {
     match editor.change(alloc, edits, steps) {
         Ok(()) => accepted_line(alloc, number),
@@ -57,12 +57,11 @@ fn answer_selection<L: Ledger>(
     focus: &ViewPlace,
     steps: &mut Steps<L>,
 ) -> Result<String, NoMemory>
-    requires { IsCurrent (λ object. gives (object.vtable, object.value)) editor.old }
-    ensures answered { IsAnswered (told (machine_of (λ object. gives (object.vtable, object.value)) editor.old) number
-        (select_view (anchor.now.path ++ anchor.now.offset ∷ []) (focus.now.path ++ focus.now.offset ∷ [])
-        (machine_of (λ object. gives (object.vtable, object.value)) editor.old)))
-        (machine_of (λ object. gives (object.vtable, object.value)) editor.new) result }
-    ensures current { IsCurrent (λ object. gives (object.vtable, object.value)) editor.new }
+    requires { IsCurrent (meanings (λ object. gives (object.vtable, object.value)) (λ object. fixes (object.vtable, object.value))) editor.old }
+    ensures answered { IsAnsweredBy (meanings (λ object. gives (object.vtable, object.value)) (λ object. fixes (object.vtable, object.value)))
+        (λ machine. told machine number
+        (select_view (anchor.now.path ++ anchor.now.offset ∷ []) (focus.now.path ++ focus.now.offset ∷ []) machine)) editor.old editor.new result }
+    ensures current { IsCurrent (meanings (λ object. gives (object.vtable, object.value)) (λ object. fixes (object.vtable, object.value))) editor.new }
 {
     match editor.select_view(alloc, anchor, focus, steps) {
         Ok(()) => accepted_line(alloc, number),
@@ -79,10 +78,10 @@ pub fn answer<L: Ledger>(
     line: &[u8],
     steps: &mut Steps<L>,
 ) -> Result<String, NoMemory>
-    requires { IsCurrent (λ object. gives (object.vtable, object.value)) editor.old }
-    ensures answered { IsAnswered (answer (machine_of (λ object. gives (object.vtable, object.value)) editor.old) number line.now)
-        (machine_of (λ object. gives (object.vtable, object.value)) editor.new) result }
-    ensures current { IsCurrent (λ object. gives (object.vtable, object.value)) editor.new }
+    requires { IsCurrent (meanings (λ object. gives (object.vtable, object.value)) (λ object. fixes (object.vtable, object.value))) editor.old }
+    ensures answered { IsAnsweredBy (meanings (λ object. gives (object.vtable, object.value)) (λ object. fixes (object.vtable, object.value)))
+        (λ machine. answer machine number line.now) editor.old editor.new result }
+    ensures current { IsCurrent (meanings (λ object. gives (object.vtable, object.value)) (λ object. fixes (object.vtable, object.value))) editor.new }
 {
     if is_blank(line) {
         return Ok(String::new(alloc));

@@ -1,9 +1,8 @@
-//! The program as a library: the top call `run`, from the words of the command line to the bytes written and the status, and the converters
-//! of this product, with which the program runs.
+//! The program as a library: the top call `run`, from the words of the command line to the bytes written and the status, and `run_product`, which
+//! runs it with the converters of this product.
 #![tactic(auto)]
 
 mod answering;
-pub mod extensions;
 mod lines;
 mod opening;
 mod printing;

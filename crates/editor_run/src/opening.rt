@@ -1,15 +1,13 @@
 //! From a settings file to an editor.
-ghost use Rattle.std.specs.Prelude.{◌≡◌, ◌≢◌, Ok, Err, Result, IfOk, IfErr, IfSome, OnOk};
+ghost use Rattle.std.specs.Prelude.{◌≡◌, ◌≢◌, Ok, Err, Result, map, IfOk, IfErr, IfSome, OnOk};
 ghost use Rattle.ck_io.specs.Rose.{Rose};
-ghost use Rattle.settings_definitions.specs.Settings.{settings_of};
 ghost use Rattle.step_definitions.specs.Step.{opened};
 ghost use Rattle.editor_core.specs.AsMachine.{machine_of, IsCurrent};
-ghost use Rattle.editor_core.specs.HandedIn.{givings_of, AreHandedIn};
+ghost use Rattle.editor_core.specs.HandedIn.{meanings, product_of, AreHandedIn};
 ghost use Rattle.config_read.specs.Refused.{settings_view};
-ghost use Rattle.program_definitions.specs.Converters.{names_of};
 ghost use Rattle.program_definitions.specs.Machine.{Machine};
 ghost use Rattle.program_definitions.specs.Output as outcomes;
-ghost use Rattle.program_definitions.specs.Output.{Outcome, refused, refused_settings, refused_start, config_of, begun, machine_from};
+ghost use Rattle.program_definitions.specs.Output.{Outcome, refused, refused_settings, refused_start, config_of, begun, settings_in, machine_from};
 ghost use Rattle.editor_run.specs.Ends.{IsNotHeld};
 ghost use Rattle.editor_run.specs.Unopened.{IsEnd, Opens};
 
@@ -20,7 +18,7 @@ use ck_base::name::Name;
 use ck_base::steps::{Ledger, Steps};
 use ck_io::{FetchFault, Files};
 use config_read::settings::{Settings, read_settings};
-use editor_core::{Editor, Extensions, NamedConverter, OpenFault, Parts};
+use editor_core::{Editor, Extensions, Named, OpenFault, Parts};
 use settings_definitions::fault::SettingsFault;
 use std::alloc::Global;
 
@@ -70,25 +68,21 @@ fn editor_of<L: Ledger>(
     extensions: Extensions,
     steps: &mut Steps<L>,
 ) -> Result<Editor, Unopened>
-    requires { AreHandedIn settings.converters.items (givings_of (λ object. gives (object.vtable, object.value)) extensions.converters.items) }
-    ensures opens { Opens (λ object. gives (object.vtable, object.value))
-        (outcomes.machine_of (givings_of (λ object. gives (object.vtable, object.value)) extensions.converters.items) (Ok (settings_view settings))) result }
+    requires { AreHandedIn settings.converters.items settings.fixers.items
+        (product_of (meanings (λ object. gives (object.vtable, object.value)) (λ object. fixes (object.vtable, object.value))) extensions) }
+    ensures opens { Opens (meanings (λ object. gives (object.vtable, object.value)) (λ object. fixes (object.vtable, object.value)))
+        (outcomes.machine_of (product_of (meanings (λ object. gives (object.vtable, object.value)) (λ object. fixes (object.vtable, object.value)))
+        extensions) (Ok (settings_view settings))) result }
     ensures read { IfErr result (λ fault. fault ≢ Unopened.NotFetched) }
 {
-    let Settings {
-        schema,
-        version,
-        start,
-        converters,
-        indexed,
-        ..
-    } = settings;
     let parts = Parts {
-        schema,
-        version,
-        start,
-        converters,
-        indexed,
+        schema: settings.schema,
+        version: settings.version,
+        rounds: settings.rounds,
+        start: settings.start,
+        fixers: settings.fixers,
+        converters: settings.converters,
+        indexed: settings.indexed,
     };
     match Editor::open(alloc, parts, extensions, steps) {
         Ok(editor) => Ok(editor),
@@ -97,15 +91,37 @@ fn editor_of<L: Ledger>(
     }
 }
 
-/// The names of converters.
-fn names_of(alloc: Global, converters: &[NamedConverter]) -> Result<Vec<Name>, NoMemory>
-    ensures { IfOk result (λ names. names.items ≡ names_of (givings_of (λ object. gives (object.vtable, object.value)) converters.now)) }
+/// The names of objects.
+fn names_of<T>(alloc: Global, objects: &[Named<T>]) -> Result<Vec<Name>, NoMemory>
+    ensures { IfOk result (λ names. names.items ≡ map (λ named. named.name) objects.now) }
 {
-    let mut names = Vec::with_capacity(alloc, converters.len())?;
-    for named in converters {
+    let mut names = Vec::with_capacity(alloc, objects.len())?;
+    for named in objects {
         names.push(named.name.copy()?)?;
     }
     Ok(names)
+}
+
+/// The settings of the bytes of a file, where these objects are handed in.
+fn settings_from(
+    alloc: Global,
+    bytes: &[u8],
+    extensions: &Extensions,
+) -> Result<Settings, SettingsFault>
+    ensures ok { IfOk result (λ settings.
+        settings_in (product_of (meanings (λ object. gives (object.vtable, object.value)) (λ object. fixes (object.vtable, object.value))) extensions.now)
+        bytes.now
+        ≡ Ok (settings_view settings)) }
+    ensures refused { IfErr result (λ fault. fault ≢ SettingsFault.NoMemory →
+        settings_in (product_of (meanings (λ object. gives (object.vtable, object.value)) (λ object. fixes (object.vtable, object.value))) extensions.now)
+        bytes.now
+        ≡ Err fault) }
+    ensures handed_in { IfOk result (λ settings. AreHandedIn settings.converters.items settings.fixers.items
+        (product_of (meanings (λ object. gives (object.vtable, object.value)) (λ object. fixes (object.vtable, object.value))) extensions.now)) }
+{
+    let converters = names_of(alloc, extensions.converters.as_slice())?;
+    let fixers = names_of(alloc, extensions.fixers.as_slice())?;
+    read_settings(alloc, bytes, converters.as_slice(), fixers.as_slice())
 }
 
 /// The editor of the bytes of a settings file.
@@ -115,15 +131,13 @@ fn editor_from<L: Ledger>(
     extensions: Extensions,
     steps: &mut Steps<L>,
 ) -> Result<Editor, Unopened>
-    ensures opens { Opens (λ object. gives (object.vtable, object.value))
-        (outcomes.machine_of (givings_of (λ object. gives (object.vtable, object.value)) extensions.converters.items)
-        (settings_of (names_of (givings_of (λ object. gives (object.vtable, object.value)) extensions.converters.items)) bytes.now)) result }
+    ensures opens { Opens (meanings (λ object. gives (object.vtable, object.value)) (λ object. fixes (object.vtable, object.value)))
+        (outcomes.machine_of (product_of (meanings (λ object. gives (object.vtable, object.value)) (λ object. fixes (object.vtable, object.value))) extensions)
+        (settings_in (product_of (meanings (λ object. gives (object.vtable, object.value)) (λ object. fixes (object.vtable, object.value))) extensions)
+        bytes.now)) result }
     ensures read { IfErr result (λ fault. fault ≢ Unopened.NotFetched) }
 {
-    let Ok(names) = names_of(alloc, extensions.converters.as_slice()) else {
-        return Err(Unopened::NoMemory);
-    };
-    match read_settings(alloc, bytes, names.as_slice()) {
+    match settings_from(alloc, bytes, &extensions) {
         Ok(settings) => editor_of(alloc, settings, extensions, steps),
         Err(fault) => Err(settings_end(alloc, fault)),
     }
@@ -138,11 +152,14 @@ pub fn open_settings<F: Files, L: Ledger>(
     steps: &mut Steps<L>,
 ) -> Result<Editor, Unopened>
     ensures ok { IfOk result (λ editor. IfSome (F.holds files.old) (λ held.
-        machine_from (givings_of (λ object. gives (object.vtable, object.value)) extensions.converters.items) (held name.now)
-        ≡ Ok (machine_of (λ object. gives (object.vtable, object.value)) editor))) }
-    ensures current { IfOk result (λ editor. IsCurrent (λ object. gives (object.vtable, object.value)) editor) }
+        machine_from (product_of (meanings (λ object. gives (object.vtable, object.value)) (λ object. fixes (object.vtable, object.value))) extensions)
+        (held name.now)
+        ≡ Ok (machine_of (meanings (λ object. gives (object.vtable, object.value)) (λ object. fixes (object.vtable, object.value))) editor))) }
+    ensures current { IfOk result (λ editor. IsCurrent
+        (meanings (λ object. gives (object.vtable, object.value)) (λ object. fixes (object.vtable, object.value))) editor) }
     ensures err { IfErr result (λ fault. IfSome (F.holds files.old) (λ held. (fault ≡ Unopened.NotFetched → ¬ Rose (F.faults files.old) (F.faults files.new))
-        → IsEnd fault (machine_from (givings_of (λ object. gives (object.vtable, object.value)) extensions.converters.items) (held name.now)))) }
+        → IsEnd fault (machine_from (product_of (meanings (λ object. gives (object.vtable, object.value)) (λ object. fixes (object.vtable, object.value)))
+        extensions) (held name.now)))) }
     ensures missing { IfErr result (λ fault. fault ≡ Unopened.NotFetched → ¬ Rose (F.faults files.old) (F.faults files.new)
         → IsNotHeld (F.holds files.old) name.now) }
     ensures holds { F.holds files.new ≡ F.holds files.old }

@@ -2,6 +2,7 @@
 ghost use Rattle.std.specs.Prelude.{◌≡◌, ◌≢◌, ◌++◌, true, false, Some, None, IfOk, OnOk, string_bytes};
 ghost use Rattle.document_definitions.specs.Selection.{attributes};
 ghost use Rattle.downcast_definitions.specs.Rows.{downcast};
+ghost use Rattle.editor_core.specs.HandedIn.{meanings};
 ghost use Rattle.editor_core.specs.AsMachine.{conversion_in, document_in, IsCurrent};
 ghost use Rattle.print_definitions.specs.SelectionText.{marker_lines, selection_line};
 ghost use Rattle.print_definitions.specs.ViewText.{view_text};
@@ -59,7 +60,7 @@ fn both_lines(alloc: Global, number: u64, model: &str, view: &str) -> Result<Str
 
 /// The printed view of a document, without its selection.
 fn plain_view(alloc: Global, editor: &Editor) -> Result<String, NoMemory>
-    requires { IsCurrent (λ object. gives (object.vtable, object.value)) editor.now }
+    requires { IsCurrent (meanings (λ object. gives (object.vtable, object.value)) (λ object. fixes (object.vtable, object.value))) editor.now }
     ensures { IfOk result (λ text. string_bytes text
         ≡ view_text None (downcast (conversion_in (λ object. gives (object.vtable, object.value)) editor.now) (document_in editor.now))) }
 {
@@ -68,7 +69,7 @@ fn plain_view(alloc: Global, editor: &Editor) -> Result<String, NoMemory>
 
 /// The printed view of a document, with the marks of its selection.
 fn selected_view(alloc: Global, editor: &Editor) -> Result<String, NoMemory>
-    requires { IsCurrent (λ object. gives (object.vtable, object.value)) editor.now }
+    requires { IsCurrent (meanings (λ object. gives (object.vtable, object.value)) (λ object. fixes (object.vtable, object.value))) editor.now }
     ensures { IfOk result (λ text. string_bytes text
         ≡ view_text (Some (seen_ends (conversion_in (λ object. gives (object.vtable, object.value)) editor.now) (document_in editor.now)))
         (downcast (conversion_in (λ object. gives (object.vtable, object.value)) editor.now) (document_in editor.now))) }
@@ -79,7 +80,7 @@ fn selected_view(alloc: Global, editor: &Editor) -> Result<String, NoMemory>
 
 /// A document without its selection.
 fn plain_lines(alloc: Global, number: u64, editor: &Editor) -> Result<String, NoMemory>
-    requires { IsCurrent (λ object. gives (object.vtable, object.value)) editor.now }
+    requires { IsCurrent (meanings (λ object. gives (object.vtable, object.value)) (λ object. fixes (object.vtable, object.value))) editor.now }
     ensures { IfOk result (λ text. string_bytes text ≡ shown_lines (conversion_in (λ object. gives (object.vtable, object.value)) editor.now) number
         false (document_in editor.now)) }
 {
@@ -104,7 +105,7 @@ fn selection_lines(alloc: Global, number: u64, document: &Document) -> Result<St
 
 /// A document with its selection: its marks in the model and in the view, and behind them the markers and the selection.
 fn selected_lines(alloc: Global, number: u64, editor: &Editor) -> Result<String, NoMemory>
-    requires { IsCurrent (λ object. gives (object.vtable, object.value)) editor.now }
+    requires { IsCurrent (meanings (λ object. gives (object.vtable, object.value)) (λ object. fixes (object.vtable, object.value))) editor.now }
     ensures { IfOk result (λ text. string_bytes text ≡ shown_lines (conversion_in (λ object. gives (object.vtable, object.value)) editor.now) number
         true (document_in editor.now)) }
 {
@@ -123,7 +124,7 @@ pub fn shown_lines(
     selection: bool,
     editor: &Editor,
 ) -> Result<String, NoMemory>
-    requires { IsCurrent (λ object. gives (object.vtable, object.value)) editor.now }
+    requires { IsCurrent (meanings (λ object. gives (object.vtable, object.value)) (λ object. fixes (object.vtable, object.value))) editor.now }
     ensures { IfOk result (λ text. string_bytes text ≡ shown_lines (conversion_in (λ object. gives (object.vtable, object.value)) editor.now) number
         selection (document_in editor.now)) }
 {

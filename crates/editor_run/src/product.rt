@@ -1,14 +1,43 @@
-//! The program with this product's converters.
-use crate::extensions::{Checkbox, HeadingAnchor, Mention, name_of};
+//! The program with this product's converters and fixers.
+ghost use Rattle.std.specs.Prelude.{◌≡◌, true};
+ghost use Rattle.ck_base.specs.Name.{is_name};
+
 use crate::run::run;
 use ck_base::NoMemory;
 use ck_base::steps::{Ledger, Steps};
 use ck_io::{Files, Sink};
-use editor_core::{Extensions, NamedConverter};
+use conv_rules::converter::Converter;
+use editor_core::{Extensions, Named};
+use post_fix::fixer::Fixer;
+use product_objects::{Checkbox, HeadingAnchor, ListIndent, Mention, name_of};
 use std::alloc::Global;
 
-/// Runs the program with this product's converters handed in: `mention`, `checkbox` and `headingAnchor`. It answers the status of `run`, or
-/// `NoMemory` where there was none for the converters, and then nothing was fetched or written.
+/// A converter of the product, with its name. It answers `NoMemory` alone beside Ok.
+fn converter(
+    alloc: Global,
+    name: &str,
+    object: Box<dyn Converter>,
+) -> Result<Named<Box<dyn Converter>>, NoMemory>
+    requires { is_name name.now ≡ true }
+{
+    let name = name_of(alloc, name)?;
+    Ok(Named { name, object })
+}
+
+/// A fixer of the product, with its name. It answers `NoMemory` alone beside Ok.
+fn fixer(
+    alloc: Global,
+    name: &str,
+    object: Box<dyn Fixer>,
+) -> Result<Named<Box<dyn Fixer>>, NoMemory>
+    requires { is_name name.now ≡ true }
+{
+    let name = name_of(alloc, name)?;
+    Ok(Named { name, object })
+}
+
+/// Runs the program with this product's converters handed in, `mention`, `checkbox` and `headingAnchor`, and its fixer `listIndent`. It answers the
+/// status of `run`, or `NoMemory` where there was none for these objects, and then nothing was fetched or written.
 #[tactic(auto, unfolding(ck_base::specs::Name::is_name))]
 pub fn run_product<F: Files, S: Sink, L: Ledger>(
     alloc: Global,
@@ -18,18 +47,11 @@ pub fn run_product<F: Files, S: Sink, L: Ledger>(
     steps: &mut Steps<L>,
 ) -> Result<u8, NoMemory> {
     let converters = vec![in alloc;
-        NamedConverter {
-            name: name_of(alloc, "mention")?,
-            object: Box::new(alloc, Mention)?,
-        },
-        NamedConverter {
-            name: name_of(alloc, "checkbox")?,
-            object: Box::new(alloc, Checkbox)?,
-        },
-        NamedConverter {
-            name: name_of(alloc, "headingAnchor")?,
-            object: Box::new(alloc, HeadingAnchor)?,
-        },
+        converter(alloc, "mention", Box::new(alloc, Mention)?)?,
+        converter(alloc, "checkbox", Box::new(alloc, Checkbox)?)?,
+        converter(alloc, "headingAnchor", Box::new(alloc, HeadingAnchor)?)?,
     ]?;
-    Ok(run(alloc, words, files, out, Extensions { converters }, steps))
+    let fixers = vec![in alloc; fixer(alloc, "listIndent", Box::new(alloc, ListIndent)?)?]?;
+    let extensions = Extensions { converters, fixers };
+    Ok(run(alloc, words, files, out, extensions, steps))
 }

@@ -3,7 +3,7 @@ ghost use Rattle.std.specs.Prelude.{◌≡◌, ◌≢◌, ◌≤◌, ◌⊎◌, 
 ghost use Rattle.std.specs.Io.KnownBytes.{append_known};
 ghost use Rattle.ck_io.specs.Rose.{Rose};
 ghost use Rattle.editor_core.specs.AsMachine.{machine_of, IsCurrent};
-ghost use Rattle.editor_core.specs.HandedIn.{givings_of};
+ghost use Rattle.editor_core.specs.HandedIn.{meanings, product_of};
 ghost use Rattle.editor_run.specs.Ends.{calls, Ends, Tells, IsOutput, IsWholeOutput, IsFront, ShowsUsage, IsMissing};
 ghost use Rattle.editor_run.specs.Unanswered.{SendsPart, Fails};
 ghost use Rattle.editor_run.specs.Unopened.{IsTold};
@@ -92,15 +92,20 @@ fn answer_line<S: Sink, L: Ledger>(
     out: &mut S,
     steps: &mut Steps<L>,
 ) -> Result<(), Unanswered>
-    requires { IsCurrent (λ object. gives (object.vtable, object.value)) editor.old }
+    requires { IsCurrent (meanings (λ object. gives (object.vtable, object.value)) (λ object. fixes (object.vtable, object.value))) editor.old }
     ensures written { OnOk result (S.written out.new
-        ≡ append_known (S.written out.old) (answer (machine_of (λ object. gives (object.vtable, object.value)) editor.old) number line.now).text) }
-    ensures machine { OnOk result (machine_of (λ object. gives (object.vtable, object.value)) editor.new
-        ≡ (answer (machine_of (λ object. gives (object.vtable, object.value)) editor.old) number line.now).machine) }
-    ensures current { IsCurrent (λ object. gives (object.vtable, object.value)) editor.new }
+        ≡ append_known (S.written out.old) (answer
+        (machine_of (meanings (λ object. gives (object.vtable, object.value)) (λ object. fixes (object.vtable, object.value))) editor.old) number
+        line.now).text) }
+    ensures machine { OnOk result (machine_of
+        (meanings (λ object. gives (object.vtable, object.value)) (λ object. fixes (object.vtable, object.value))) editor.new
+        ≡ (answer (machine_of (meanings (λ object. gives (object.vtable, object.value)) (λ object. fixes (object.vtable, object.value))) editor.old) number
+        line.now).machine) }
+    ensures current { IsCurrent (meanings (λ object. gives (object.vtable, object.value)) (λ object. fixes (object.vtable, object.value))) editor.new }
     ensures calm { OnOk result (S.faults out.new ≡ S.faults out.old) }
     ensures part { IfErr result (λ fault. SendsPart fault (S.written out.old) (S.written out.new)
-        (answer (machine_of (λ object. gives (object.vtable, object.value)) editor.old) number line.now).text) }
+        (answer (machine_of (meanings (λ object. gives (object.vtable, object.value)) (λ object. fixes (object.vtable, object.value))) editor.old) number
+        line.now).text) }
     ensures failed { IfErr result (λ fault. Fails fault (S.faults out.old) (S.faults out.new)) }
 {
     let Ok(text) = answer(alloc, editor, number, line, steps) else {
@@ -120,9 +125,11 @@ fn answer_lines<S: Sink, L: Ledger>(
     out: &mut S,
     steps: &mut Steps<L>,
 ) -> Status
-    requires current { IsCurrent (λ object. gives (object.vtable, object.value)) editor.old }
+    requires current { IsCurrent (meanings (λ object. gives (object.vtable, object.value)) (λ object. fixes (object.vtable, object.value))) editor.old }
     requires short { length script.now ≤ most_script_bytes }
-    ensures tells { Tells (answers (machine_of (λ object. gives (object.vtable, object.value)) editor.old) 1 (lines_of script.now)) Status.Finished
+    ensures tells { Tells (answers (machine_of
+        (meanings (λ object. gives (object.vtable, object.value)) (λ object. fixes (object.vtable, object.value))) editor.old) 1 (lines_of script.now))
+        Status.Finished
         (S.written out.old) (S.written out.new) (S.faults out.old) (S.faults out.new) result }
     ensures statuses { (result ≡ Status.Finished) ⊎ (result ≡ Status.NoMemory) ⊎ (result ≡ Status.NotWritten) }
 {
@@ -150,10 +157,11 @@ fn answer_script<F: Files, S: Sink, L: Ledger>(
     out: &mut S,
     steps: &mut Steps<L>,
 ) -> Status
-    requires { IsCurrent (λ object. gives (object.vtable, object.value)) editor.old }
+    requires { IsCurrent (meanings (λ object. gives (object.vtable, object.value)) (λ object. fixes (object.vtable, object.value))) editor.old }
     ensures ends { Ends (calls (F.holds files.old) (F.faults files.old) (F.faults files.new)
         (S.written out.old) (S.written out.new) (S.faults out.old) (S.faults out.new))
-        (λ held. script_outcome (machine_of (λ object. gives (object.vtable, object.value)) editor.old) (held script.now)) result }
+        (λ held. script_outcome (machine_of (meanings (λ object. gives (object.vtable, object.value)) (λ object. fixes (object.vtable, object.value)))
+        editor.old) (held script.now)) result }
     ensures words { result ≢ Status.BadWords }
 {
     match files.fetch(alloc, script, MOST_SCRIPT_BYTES) {
@@ -210,10 +218,11 @@ fn go_on<F: Files, S: Sink, L: Ledger>(
     out: &mut S,
     steps: &mut Steps<L>,
 ) -> Status
-    requires { IsCurrent (λ object. gives (object.vtable, object.value)) editor.old }
+    requires { IsCurrent (meanings (λ object. gives (object.vtable, object.value)) (λ object. fixes (object.vtable, object.value))) editor.old }
     ensures ends { Ends (calls (F.holds files.old) (F.faults files.old) (F.faults files.new)
         (S.written out.old) (S.written out.new) (S.faults out.old) (S.faults out.new))
-        (λ held. done held (task_view task.entry) (machine_of (λ object. gives (object.vtable, object.value)) editor.old)) result }
+        (λ held. done held (task_view task.entry)
+        (machine_of (meanings (λ object. gives (object.vtable, object.value)) (λ object. fixes (object.vtable, object.value))) editor.old)) result }
     ensures words { result ≢ Status.BadWords }
 {
     match task {
@@ -241,7 +250,8 @@ fn run_task<F: Files, S: Sink, L: Ledger>(
 ) -> Status
     ensures ends { Ends (calls (F.holds files.old) (F.faults files.old) (F.faults files.new)
         (S.written out.old) (S.written out.new) (S.faults out.old) (S.faults out.new))
-        (λ held. task_outcome (givings_of (λ object. gives (object.vtable, object.value)) extensions.converters.items) held (task_view task.entry)) result }
+        (λ held. task_outcome (product_of (meanings (λ object. gives (object.vtable, object.value)) (λ object. fixes (object.vtable, object.value)))
+        extensions) held (task_view task.entry)) result }
     ensures words { result ≢ Status.BadWords }
 {
     match open_settings(alloc, task.settings(), files, extensions, steps) {
@@ -278,15 +288,18 @@ pub fn run<F: Files, S: Sink, L: Ledger>(
     // Where it is told what is held: unless memory ran out or a call failed, the status and the bytes are the machine's.
     ensures output { IsOutput (calls (F.holds files.old) (F.faults files.old) (F.faults files.new)
         (S.written out.old) (S.written out.new) (S.faults out.old) (S.faults out.new))
-        (output (givings_of (λ object. gives (object.vtable, object.value)) extensions.converters.items) (map string_bytes words.now)) result }
+        (output (product_of (meanings (λ object. gives (object.vtable, object.value)) (λ object. fixes (object.vtable, object.value))) extensions)
+        (map string_bytes words.now)) result }
     ensures complete { IsWholeOutput (calls (F.holds files.old) (F.faults files.old) (F.faults files.new)
         (S.written out.old) (S.written out.new) (S.faults out.old) (S.faults out.new))
-        (output (givings_of (λ object. gives (object.vtable, object.value)) extensions.converters.items) (map string_bytes words.now)) result }
+        (output (product_of (meanings (λ object. gives (object.vtable, object.value)) (λ object. fixes (object.vtable, object.value))) extensions)
+        (map string_bytes words.now)) result }
 
     // What was written is always a front of the machine's bytes.
     ensures part { IsFront (calls (F.holds files.old) (F.faults files.old) (F.faults files.new)
         (S.written out.old) (S.written out.new) (S.faults out.old) (S.faults out.new))
-        (output (givings_of (λ object. gives (object.vtable, object.value)) extensions.converters.items) (map string_bytes words.now)) }
+        (output (product_of (meanings (λ object. gives (object.vtable, object.value)) (λ object. fixes (object.vtable, object.value))) extensions)
+        (map string_bytes words.now)) }
 
     // Whatever the files and the sink tell, each status has its cause.
     ensures bad_words { result ≡ 2 → ShowsUsage (S.written out.old) (S.written out.new) (map string_bytes words.now) }
@@ -312,7 +325,8 @@ fn run_words<F: Files, S: Sink, L: Ledger>(
 ) -> Status
     ensures ends { Ends (calls (F.holds files.old) (F.faults files.old) (F.faults files.new)
         (S.written out.old) (S.written out.new) (S.faults out.old) (S.faults out.new))
-        (λ held. output (givings_of (λ object. gives (object.vtable, object.value)) extensions.converters.items) (map string_bytes words.now) held) result }
+        (λ held. output (product_of (meanings (λ object. gives (object.vtable, object.value)) (λ object. fixes (object.vtable, object.value))) extensions)
+        (map string_bytes words.now) held) result }
     ensures bad_words { result ≡ Status.BadWords → ShowsUsage (S.written out.old) (S.written out.new) (map string_bytes words.now) }
     ensures words { task_of (map string_bytes words.now) ≡ None → (result ≡ Status.BadWords) ⊎ (result ≡ Status.NotWritten) }
 {

@@ -1,3 +1,5 @@
+pub mod Product
+pub mod Fixers
 pub mod Converters
 pub mod Selecting
 pub mod Machine

@@ -8,7 +8,9 @@ use Rattle.machine_definitions.specs.Refusals.{refusal_text}
 use Rattle.settings_definitions.specs.Settings.{Settings, settings_of}
 use Rattle.settings_definitions.specs.declared.fault.SettingsFault.{SettingsFault}
 use Rattle.step_definitions.specs.Step.{opened}
-use Rattle.program_definitions.specs.Converters.{Givings, names_of, conversion_of}
+use Rattle.program_definitions.specs.Product.{Product, names_of}
+use Rattle.program_definitions.specs.Converters.{conversion_of}
+use Rattle.program_definitions.specs.Fixers.{terms_by}
 use Rattle.program_definitions.specs.Machine.{Config, Machine, beginning, answers}
 use Rattle.program_definitions.specs.Task.{Task, run, check, settings_name, task_of}
 
@@ -60,9 +62,12 @@ abbrev pub done : (List ℕ → Option (List ℕ)) → Task → Machine → Outc
 done held (run settings script) machine = script_outcome machine (held script)
 done held (check settings) machine = record { bytes = accepted_settings; status = 0 }
 
--- what settings say of a document's editing and showing, where these converters are handed in
-abbrev pub config_of : Givings → Settings → Config
-config_of givings settings = record { terms = record { rules = settings.rules }; conversion = conversion_of givings settings }
+-- what settings say of a document's editing and showing, where a product adds this
+abbrev pub config_of : Product → Settings → Config
+config_of product settings = record {
+  terms = terms_by product.fixers settings.rules settings.fixers settings.rounds;
+  conversion = conversion_of product.converters settings;
+}
 
 -- the machine on the document that is opened, or how the run ends where that is refused
 abbrev pub begun : Config → Result Document Refusal → Result Machine Outcome
@@ -70,15 +75,19 @@ begun config (Ok document) = Ok (beginning config document)
 begun config (Err refusal) = Err (refused (refused_start refusal))
 
 -- the machine of settings, or how the run ends where these are refused
-abbrev pub machine_of : Givings → Result Settings SettingsFault → Result Machine Outcome
-machine_of givings (Ok settings) = begun (config_of givings settings) (opened (config_of givings settings).terms settings.start)
-machine_of givings (Err fault) = Err (refused (refused_settings fault))
+abbrev pub machine_of : Product → Result Settings SettingsFault → Result Machine Outcome
+machine_of product (Ok settings) = begun (config_of product settings) (opened (config_of product settings).terms settings.start)
+machine_of product (Err fault) = Err (refused (refused_settings fault))
+
+-- the settings of a file's bytes, where a product adds this
+abbrev pub settings_in : Product → List ℕ → Result Settings SettingsFault
+settings_in product bytes = settings_of (names_of product.converters) (names_of product.fixers) bytes
 
 -- the machine of the bytes of a settings file: one that isn't held gives 4, and one over its limit 6
-abbrev pub machine_from : Givings → Option (List ℕ) → Result Machine Outcome
-machine_from givings None = Err (silent 4)
-machine_from givings (Some bytes) =
-    if nat_lt most_settings_bytes (length bytes) then Err (silent 6) else machine_of givings (settings_of (names_of givings) bytes)
+abbrev pub machine_from : Product → Option (List ℕ) → Result Machine Outcome
+machine_from product None = Err (silent 4)
+machine_from product (Some bytes) =
+    if nat_lt most_settings_bytes (length bytes) then Err (silent 6) else machine_of product (settings_in product bytes)
 
 -- a task on a machine, or the end of the run that has none
 abbrev pub finished : (List ℕ → Option (List ℕ)) → Task → Result Machine Outcome → Outcome
@@ -86,14 +95,14 @@ finished held task (Ok machine) = done held task machine
 finished held task (Err outcome) = outcome
 
 -- a task with the files that are held so
-abbrev pub task_outcome : Givings → (List ℕ → Option (List ℕ)) → Task → Outcome
-task_outcome givings held task = finished held task (machine_from givings (held (settings_name task)))
+abbrev pub task_outcome : Product → (List ℕ → Option (List ℕ)) → Task → Outcome
+task_outcome product held task = finished held task (machine_from product (held (settings_name task)))
 
 -- words of no form are answered by the usage line and 2, others by what their task gives
-abbrev pub outcome_of : Givings → (List ℕ → Option (List ℕ)) → Option Task → Outcome
-outcome_of givings held None = record { bytes = usage; status = 2 }
-outcome_of givings held (Some task) = task_outcome givings held task
+abbrev pub outcome_of : Product → (List ℕ → Option (List ℕ)) → Option Task → Outcome
+outcome_of product held None = record { bytes = usage; status = 2 }
+outcome_of product held (Some task) = task_outcome product held task
 
--- the output of the program on these words, where products' converters that give this are handed in and files are held so
-abbrev pub output : Givings → List (List ℕ) → (List ℕ → Option (List ℕ)) → Outcome
-output givings words held = outcome_of givings held (task_of words)
+-- the output of the program on these words, where a product adds this and files are held so
+abbrev pub output : Product → List (List ℕ) → (List ℕ → Option (List ℕ)) → Outcome
+output product words held = outcome_of product held (task_of words)

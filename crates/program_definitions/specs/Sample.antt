@@ -4,8 +4,8 @@ use Rattle.item_definitions.specs.Item.{element, none}
 use Rattle.item_definitions.specs.Position.{between}
 use Rattle.document_definitions.specs.Selection.{selected}
 use Rattle.document_definitions.specs.Document.{Document}
-use Rattle.schema_definitions.specs.Sample as schema
 use Rattle.converter_definitions.specs.Sample as converters
+use Rattle.step_definitions.specs.Sample.{terms}
 use Rattle.program_definitions.specs.Machine.{Config, Machine, beginning}
 
 -- an empty paragraph with the selection in it
@@ -17,9 +17,9 @@ one_paragraph = record {
   next_id = 2;
 }
 
--- the sample's schema, and the sample's converters
+-- the sample's schema without fixers, and the sample's converters
 abbrev pub config : Config
-config = record { terms = record { rules = schema.sample }; conversion = converters.sample }
+config = record { terms = terms [] 64; conversion = converters.sample }
 
 -- the machine that has just opened that paragraph
 abbrev pub machine : Machine

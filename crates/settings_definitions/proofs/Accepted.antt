@@ -37,13 +37,13 @@ use Rattle.converter_definitions.specs.Gives.{part, stock, Conversion, gift_if, 
 use Rattle.converter_definitions.specs.declared.plan.ConverterPlan.{ConverterPlan}
 use Rattle.converter_definitions.specs.declared.plan.PlanEntry.{PlanEntry}
 use Rattle.converter_definitions.specs.declared.plan.PlanEntry.TheVariants.{Stock, Boxed}
-use Rattle.converter_definitions.specs.PlanNames.{is_bare, is_unconditional, converts, first_unknown_item, first_unknown_custom, first_without_converter}
+use Rattle.converter_definitions.specs.PlanNames.{is_bare, is_unconditional, converts, first_without_converter}
 use Rattle.ck_base.specs.Name.{is_generic}
 use Rattle.json_forms.specs.declared.fault.FormFault.{FormFault}
 use Rattle.settings_definitions.specs.declared.fault.SettingsFault.{SettingsFault}
 use Rattle.settings_definitions.specs.declared.fault.SettingsFault.TheVariants.{TwiceRegistered, UnknownItem, BadCheck, UnknownCustom, NoConverter}
-use Rattle.settings_definitions.specs.Settings.{Form as FileForm, rules_of, items_of, unknown_start, converters_refusal, refusal_of, Settings, settings_in}
-use Rattle.settings_definitions.specs.Settings.{unless_refused, settings_from, form_of, settings_of}
+use Rattle.settings_definitions.specs.Settings.{Form as FileForm, rules_of, items_of, unknown_start, first_unknown_of_plans, first_unknown_custom_plan}
+use Rattle.settings_definitions.specs.Settings.{refusal_of, Settings, settings_in, unless_refused, settings_from, form_of, settings_of}
 use Rattle.settings_definitions.specs.Converting.{Serves, AllConverted}
 use Rattle.settings_definitions.proofs.Shaped.{shaped}
 
@@ -84,24 +84,24 @@ unfolding registered
 registered_in_order rules name h = has-among [] (registrations rules.entries) name ∙ or_left (has (registrations rules.entries) name) false h
 
 -- why nothing is refused
-record Accepted (handed_in : List (List ℕ)) (form : FileForm) : Type 0 where
+record Accepted (form : FileForm) : Type 0 where
   known : first_unknown (rules_of form) ≡ None
   converted : first_without_converter form.converters (registered (rules_of form)) ≡ None
 
-accepted : (handed_in : List (List ℕ)) (form : FileForm) → refusal_of handed_in form ≡ None → Accepted handed_in form
+accepted : (converters fixers : List (List ℕ)) (form : FileForm) → refusal_of converters fixers form ≡ None → Accepted form
 unfolding refusal_of
-accepted handed_in form e =
+accepted converters fixers form e =
     go (option_map TwiceRegistered (first_repeated [] (items_of form))) (option_map UnknownItem (unknown_start (items_of form) form.start))
     (first_unknown (rules_of form))
-    (option_map UnknownItem (first_unknown_item (items_of form) form.converters)) (option_map BadCheck (first_bad_check form.checks))
-    (option_map UnknownCustom (first_unknown_custom handed_in form.converters)) (first_without_converter form.converters (registered (rules_of form)))
+    (option_map UnknownItem (first_unknown_of_plans (items_of form) form)) (option_map BadCheck (first_bad_check form.checks))
+    (option_map UnknownCustom (first_unknown_custom_plan converters fixers form)) (first_without_converter form.converters (registered (rules_of form)))
     refl refl e
   where
     go : (twice start : Option SettingsFault) (unknown : Option (List ℕ)) (item check custom : Option SettingsFault) (missing : Option (List ℕ))
         → first_unknown (rules_of form) ≡ unknown → first_without_converter form.converters (registered (rules_of form)) ≡ missing
         → option_or twice (option_or start
         (option_or (option_map UnknownItem unknown) (option_or item (option_or check (option_or custom (option_map NoConverter missing)))))) ≡ None
-        → Accepted handed_in form
+        → Accepted form
     go None None None None None None None u m f = record { known = u; converted = m }
     go None None None None None None (Some name) u m f = cc
     go None None None None None (Some fault) missing u m f = cc
@@ -167,9 +167,9 @@ module _ (objects : List (List ℕ)) (name : List ℕ) (attributes : Attributes)
   gives_shape (Stock (MarkerToElement marker view)) h = cc
   gives_shape (Boxed custom counted) h = cc
 
-converts_each : (handed_in : List (List ℕ)) (form : FileForm) → Accepted handed_in form → (conversion : Conversion) → Serves form.converters conversion
+converts_each : (form : FileForm) → Accepted form → (conversion : Conversion) → Serves form.converters conversion
     → (items : List Item) → breach (rules_of form) items ≡ None → AllConverted conversion items
-converts_each handed_in form fine conversion serves items obeys path id name attributes children there free parent index =
+converts_each form fine conversion serves items obeys path id name attributes children there free parent index =
     let allowed = (obeys_iff (rules_of form) items).0 obeys path (element id name attributes children) there in
     let known = standing_is_known (rules_of form) fine.known (ancestors_at path items) name allowed.stands in
     let passes = all_pass (λ n. is_generic n || converts form.converters n) (registered (rules_of form)) name fine.converted
@@ -179,23 +179,24 @@ converts_each handed_in form fine conversion serves items obeys path id name att
     shaped conversion (record { name = name; attributes = attributes; parent = parent; index = index }) (stock shape.converter) shape.form serves.lawful
     (serves.listed unconditional.plan shape.converter unconditional.there shape.is) shape.gives
 
-pub accepted_convert : (handed_in : List (List ℕ)) (bytes : List ℕ) (settings : Settings) → settings_of handed_in bytes ≡ Ok settings
+pub accepted_convert : (converters fixers : List (List ℕ)) (bytes : List ℕ) (settings : Settings)
+    → settings_of converters fixers bytes ≡ Ok settings
     → (conversion : Conversion) → Serves settings.converters conversion → (items : List Item) → breach settings.rules items ≡ None
     → AllConverted conversion items
 unfolding settings_of
-accepted_convert handed_in bytes settings e = go (form_of bytes) e
+accepted_convert converters fixers bytes settings e = go (form_of bytes) e
   where
-    by : (form : FileForm) (reason : Option SettingsFault) → refusal_of handed_in form ≡ reason → unless_refused form reason ≡ Ok settings
+    by : (form : FileForm) (reason : Option SettingsFault) → refusal_of converters fixers form ≡ reason → unless_refused form reason ≡ Ok settings
         → (conversion : Conversion) → Serves settings.converters conversion → (items : List Item) → breach settings.rules items ≡ None
         → AllConverted conversion items
     by form None r f =
         let same : settings_in form ≡ settings = cc in
         subst (λ s. (conversion : Conversion) → Serves s.converters conversion → (items : List Item) → breach s.rules items ≡ None
-        → AllConverted conversion items) same (converts_each handed_in form (accepted handed_in form r))
+        → AllConverted conversion items) same (converts_each form (accepted converters fixers form r))
     by form (Some fault) r f = cc
 
-    go : (form : Result FileForm FormFault) → settings_from handed_in form ≡ Ok settings
+    go : (form : Result FileForm FormFault) → settings_from converters fixers form ≡ Ok settings
         → (conversion : Conversion) → Serves settings.converters conversion → (items : List Item) → breach settings.rules items ≡ None
         → AllConverted conversion items
     go (Err fault) f = cc
-    go (Ok form) f = by form (refusal_of handed_in form) refl f
+    go (Ok form) f = by form (refusal_of converters fixers form) refl f

@@ -1,11 +1,8 @@
 pub mod Faults
 pub mod SchemaForm
-pub mod PatternForm
-pub mod PriorityForm
-pub mod ViewForm
-pub mod ShapeForm
-pub mod ConverterForm
-pub mod ConverterRows
+pub mod FixerForm
+pub mod FixerRows
+pub mod FixerNames
 pub mod Settings
 pub mod Texts
 pub mod Converting

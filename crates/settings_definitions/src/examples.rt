@@ -6,7 +6,9 @@ ghost use Rattle.schema_definitions.specs.Compiled.{bare};
 ghost use Rattle.json_forms.specs.declared.fault.FormFault.TheVariants as form;
 ghost use Rattle.converter_definitions.specs.declared.pattern.Pattern.TheVariants.{Index};
 ghost use Rattle.converter_definitions.specs.declared.stock.StockConverter.TheVariants.{ElementToElement};
-ghost use Rattle.settings_definitions.specs.ConverterForm.{stock_plan};
+ghost use Rattle.converter_forms.specs.ConverterForm.{stock_plan};
+ghost use Rattle.fix_definitions.specs.declared.plan.FixerPlan.TheVariants.{Stock, Boxed};
+ghost use Rattle.fix_definitions.specs.declared.stock.StockFixer.TheVariants.{DropAttributes};
 ghost use Rattle.settings_definitions.specs.Settings.{form_of, settings_of};
 ghost use Rattle.settings_definitions.specs.declared.fault.SettingsFault.TheVariants.{NotJson, BadField, TwiceRegistered, UnknownItem, BadCheck, UnknownCustom};
 ghost use Rattle.settings_definitions.specs.declared.fault.SettingsFault.TheVariants.{NoConverter};
@@ -14,14 +16,15 @@ ghost use Rattle.settings_definitions.specs.declared.fault.SettingsFault.TheVari
 /// What files say.
 pub fn forms()
     ensures least { form_of (codes "{\"version\":1,\"schema\":[],\"converters\":[]}")
-        ≡ Ok (record { version = 1; rounds = 64; start = None; entries = []; checks = []; converters = [] }) }
-    ensures more { form_of (codes "{\"version\":2,\"rounds\":2,\"start\":\"p\",\"schema\":[{\"item\":\"p\",\"allowIn\":[\"$root\",\"q\"],\"inheritAllFrom\":\"$block\",\"isBlock\":true}],\"checks\":[{\"child\":\"p\",\"endsWith\":[\"q\"],\"answer\":true}],\"converters\":[{\"kind\":\"elementToElement\",\"model\":\"p\",\"view\":{\"name\":\"p\",\"attributes\":{\"n\":{\"index\":1}}}}]}")
+        ≡ Ok (record { version = 1; rounds = 64; start = None; entries = []; checks = []; fixers = []; converters = [] }) }
+    ensures more { form_of (codes "{\"version\":2,\"rounds\":2,\"start\":\"p\",\"schema\":[{\"item\":\"p\",\"allowIn\":[\"$root\",\"q\"],\"inheritAllFrom\":\"$block\",\"isBlock\":true}],\"checks\":[{\"child\":\"p\",\"endsWith\":[\"q\"],\"answer\":true}],\"fixers\":[\"dropAttributes\",{\"custom\":\"a\"}],\"converters\":[{\"kind\":\"elementToElement\",\"model\":\"p\",\"view\":{\"name\":\"p\",\"attributes\":{\"n\":{\"index\":1}}}}]}")
         ≡ Ok (record {
           version = 2;
           rounds = 2;
           start = Some (codes "p");
           entries = record (bare (Item (codes "p"))) { allow_in = codes "$root" ∷ codes "q" ∷ []; inherit_all_from = codes "$block" ∷ []; is_block = Some true } ∷ [];
           checks = Child (codes "p") (codes "q" ∷ []) true ∷ [];
+          fixers = Stock DropAttributes ∷ Boxed (codes "a") ∷ [];
           converters = stock_plan (pos 0) (ElementToElement (codes "p") [] None (record { name = codes "p"; is_empty = false; attributes = (codes "n", Index 1) ∷ [] })) ∷ [];
         }) }
 {}
@@ -59,42 +62,40 @@ pub fn broken_converters()
         ≡ Err (form.BadField (codes "/converters/0/view/attributes/n/from")) }
     ensures no_custom_index { form_of (codes "{\"version\":1,\"schema\":[],\"converters\":[{\"kind\":\"custom\",\"name\":\"a\",\"index\":\"p\"}]}")
         ≡ Err (form.BadField (codes "/converters/0/index")) }
-    ensures fixers { form_of (codes "{\"version\":1,\"schema\":[],\"fixers\":[],\"converters\":[]}")
-        ≡ Err (form.BadField (codes "/fixers")) }
 {}
 
 /// Why files are refused, in order.
 pub fn refusals()
-    ensures not_json { settings_of [] (codes "{")
+    ensures not_json { settings_of [] [] (codes "{")
         ≡ Err NotJson }
-    ensures bad_field { settings_of [] (codes "[]")
+    ensures bad_field { settings_of [] [] (codes "[]")
         ≡ Err (BadField []) }
-    ensures twice { settings_of [] (codes "{\"version\":1,\"start\":\"x\",\"schema\":[{\"item\":\"$text\"}],\"converters\":[]}")
+    ensures twice { settings_of [] [] (codes "{\"version\":1,\"start\":\"x\",\"schema\":[{\"item\":\"$text\"}],\"converters\":[]}")
         ≡ Err (TwiceRegistered (codes "$text")) }
-    ensures start { settings_of [] (codes "{\"version\":1,\"start\":\"x\",\"schema\":[{\"extend\":\"y\"}],\"converters\":[]}")
+    ensures start { settings_of [] [] (codes "{\"version\":1,\"start\":\"x\",\"schema\":[{\"extend\":\"y\"}],\"converters\":[]}")
         ≡ Err (UnknownItem (codes "x")) }
-    ensures reserved_start { settings_of [] (codes "{\"version\":1,\"start\":\"$block\",\"schema\":[],\"converters\":[]}")
+    ensures reserved_start { settings_of [] [] (codes "{\"version\":1,\"start\":\"$block\",\"schema\":[],\"converters\":[]}")
         ≡ Err (UnknownItem (codes "$block")) }
-    ensures unknown { settings_of []
+    ensures unknown { settings_of [] []
         (codes "{\"version\":1,\"schema\":[],\"checks\":[{\"child\":\"q\",\"endsWith\":[],\"answer\":true}],\"converters\":[{\"kind\":\"custom\",\"name\":\"a\"}]}")
         ≡ Err (UnknownItem (codes "q")) }
-    ensures bad_check { settings_of []
+    ensures bad_check { settings_of [] []
         (codes "{\"version\":1,\"schema\":[{\"item\":\"p\"}],\"checks\":[{\"attribute\":\"q\",\"endsWith\":[],\"answer\":true}],\"converters\":[{\"kind\":\"custom\",\"name\":\"a\"}]}")
         ≡ Err (BadCheck 1) }
 {}
 
 /// Why files are refused because of their converters, where a product's converter `a` is handed in.
 pub fn refusals_of_converters()
-    ensures unknown { settings_of (codes "a" ∷ [])
+    ensures unknown { settings_of (codes "a" ∷ []) []
         (codes "{\"version\":1,\"schema\":[],\"checks\":[{\"attribute\":\"k\",\"endsWith\":[],\"answer\":true}],\"converters\":[{\"kind\":\"custom\",\"name\":\"b\"},{\"kind\":\"elementToElement\",\"model\":\"p\",\"view\":{\"name\":\"p\"}}]}")
         ≡ Err (UnknownItem (codes "p")) }
-    ensures not_handed_in { settings_of (codes "a" ∷ [])
+    ensures not_handed_in { settings_of (codes "a" ∷ []) []
         (codes "{\"version\":1,\"schema\":[{\"item\":\"p\"}],\"converters\":[{\"kind\":\"custom\",\"name\":\"a\"},{\"kind\":\"custom\",\"name\":\"b\"}]}")
         ≡ Err (UnknownCustom (codes "b")) }
-    ensures used_twice { settings_of (codes "a" ∷ [])
+    ensures used_twice { settings_of (codes "a" ∷ []) []
         (codes "{\"version\":1,\"schema\":[{\"item\":\"p\"}],\"converters\":[{\"kind\":\"custom\",\"name\":\"a\"},{\"kind\":\"custom\",\"name\":\"a\"}]}")
         ≡ Err (UnknownCustom (codes "a")) }
-    ensures no_converter { settings_of (codes "a" ∷ [])
+    ensures no_converter { settings_of (codes "a" ∷ []) []
         (codes "{\"version\":1,\"schema\":[{\"item\":\"q\"},{\"item\":\"p\"}],\"converters\":[{\"kind\":\"custom\",\"name\":\"a\"},{\"kind\":\"elementToElement\",\"model\":\"q\",\"view\":{\"name\":\"q\"}},{\"kind\":\"elementToElement\",\"model\":\"p\",\"parent\":\"q\",\"view\":{\"name\":\"p\"}}]}")
         ≡ Err (NoConverter (codes "p")) }
 {}

@@ -10,7 +10,7 @@ ghost use Rattle.settings_definitions.specs.Converting.{Serves, AllConverted};
 /// it stands, by the converters of the settings in whatever order, with a product's lawful ones among them.
 #[tactic(auto)]
 pub fn accepted_settings_convert_each_element()
-    ensures { (handed_in : List (List ℕ)) (bytes : List ℕ) (settings : Settings) → settings_of handed_in bytes ≡ Ok settings
+    ensures { (converters fixers : List (List ℕ)) (bytes : List ℕ) (settings : Settings) → settings_of converters fixers bytes ≡ Ok settings
         → (conversion : Conversion) → Serves settings.converters conversion
         → (items : List Item) → breach settings.rules items ≡ None → AllConverted conversion items }
 {}

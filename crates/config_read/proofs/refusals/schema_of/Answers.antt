@@ -2,9 +2,8 @@ use Rattle.std.proofs.Common.{◌≡◌, ◌++◌, IfOk, option_copied, option_m
 use Rattle.std.specs.Option.{option_or}
 use Rattle.schema_definitions.specs.Allowed.{registrations}
 use Rattle.schema_definitions.specs.Compiled.{predefined}
-use Rattle.converter_definitions.specs.PlanNames.{first_unknown_item}
 use Rattle.settings_definitions.specs.declared.fault.SettingsFault.TheVariants.{UnknownItem}
-use Rattle.settings_definitions.specs.Settings.{items_of, unknown_start, converters_refusal}
+use Rattle.settings_definitions.specs.Settings.{items_of, unknown_start, first_unknown_of_plans, plans_refusal}
 use Rattle.config_read.specs.FileForm.{form_view}
 use Rattle.config_read.specs.Refused.{Refuses}
 use Rattle.config_read.proofs.Order.{schema_rules, schema_decides, schema_refused}
@@ -12,10 +11,8 @@ use Rattle.config_read.proofs.refusals.schema_of.Goals as goal
 
 pub returns-in-Ok-clause-ok : goal.returns-in-Ok-clause-ok
 returns-in-Ok-clause-ok c =
-    let form = c.args.form.now in
     subst (λ rules. IfOk c.accepted.result (λ made. made ≡ rules))
-    (schema_rules c.args.handed_in.now form.schema form.version form.rounds form.start form.converters.items c.in-Ok.schema c.in-Ok.ensures.ok)
-    c.accepted.ensures.ok
+    (schema_rules c.args.converters.now c.args.fixers.now c.args.form.now c.in-Ok.schema c.in-Ok.ensures.ok) c.accepted.ensures.ok
 
 pub returns-in-Ok-clause-refused : goal.returns-in-Ok-clause-refused
 returns-in-Ok-clause-refused c =
@@ -23,16 +20,13 @@ returns-in-Ok-clause-refused c =
     let items = c.in_ok-items.items.items in
     let known : items ≡ items_of (form_view form) = c.in_ok-items.ensures ∙ ap (λ entries. registrations (predefined ++ entries)) c.as_slice.ensures.value in
     let is_first = c.unknown_start-start.ensures ∙ ap (λ names. unknown_start names form.start) c.deref.ensures.value in
-    let is_second = c.first_unknown_item-converter.ensures ∙ ap (λ names. first_unknown_item names c.deref-3.result.now) c.deref-2.ensures.value
-    ∙ ap (first_unknown_item items) c.deref-3.ensures.value in
+    let is_second = c.first_unknown_of_plans-plan_name.ensures ∙ ap (λ names. first_unknown_of_plans names (form_view form)) c.deref-2.ensures.value in
     let first = option_copied c.unknown_start-start.result in
-    let second = option_copied c.first_unknown_item-converter.result in
+    let second = option_copied c.first_unknown_of_plans-plan_name.result in
     subst (Refuses c.accepted.result)
-    (ap (λ name. option_or (option_map UnknownItem name) (converters_refusal c.args.handed_in.now c.in-Ok.schema c.deref-in-Ok.result.now)) c.first_of.ensures
-    ∙ ap (λ plans. option_or (option_map UnknownItem (option_or first second)) (converters_refusal c.args.handed_in.now c.in-Ok.schema plans))
-    c.deref-in-Ok.ensures.value
-    ∙ sym (schema_decides c.args.handed_in.now form.schema form.version form.rounds form.start form.converters.items c.in-Ok.schema items first second
-    c.in-Ok.ensures.ok known is_first is_second))
+    (ap (λ name. option_or (option_map UnknownItem name) (plans_refusal c.args.converters.now c.args.fixers.now c.in-Ok.schema (form_view form)))
+    c.first_of.ensures
+    ∙ sym (schema_decides c.args.converters.now c.args.fixers.now form c.in-Ok.schema items first second c.in-Ok.ensures.ok known is_first is_second))
     c.accepted.ensures.refused
 
 pub returns-clause-refused : goal.returns-clause-refused
@@ -41,8 +35,6 @@ returns-clause-refused c =
     let items = c.in_ok-items.items.items in
     let known : items ≡ items_of (form_view form) = c.in_ok-items.ensures ∙ ap (λ entries. registrations (predefined ++ entries)) c.as_slice.ensures.value in
     let is_first = c.unknown_start-start.ensures ∙ ap (λ names. unknown_start names form.start) c.deref.ensures.value in
-    let is_second = c.first_unknown_item-converter.ensures ∙ ap (λ names. first_unknown_item names c.deref-3.result.now) c.deref-2.ensures.value
-    ∙ ap (first_unknown_item items) c.deref-3.ensures.value in
-    schema_refused c.args.handed_in.now form.schema form.version form.rounds form.start form.converters.items c.in-Err.fault c.ordered.result items
-    (option_copied c.unknown_start-start.result) (option_copied c.first_unknown_item-converter.result) c.in-Err.ensures.refused known is_first is_second
-    c.ordered.ensures
+    let is_second = c.first_unknown_of_plans-plan_name.ensures ∙ ap (λ names. first_unknown_of_plans names (form_view form)) c.deref-2.ensures.value in
+    schema_refused c.args.converters.now c.args.fixers.now form c.in-Err.fault c.ordered.result items (option_copied c.unknown_start-start.result)
+    (option_copied c.first_unknown_of_plans-plan_name.result) c.in-Err.ensures.refused known is_first is_second c.ordered.ensures

@@ -1,7 +1,7 @@
 use Rattle.std.proofs.Common.{◌≡◌, drop}
 use Rattle.serde_json.specs.View.{items_view}
 use Rattle.json_names.proofs.Fronts.{with_front}
-use Rattle.settings_definitions.specs.ConverterForm.{converters_at}
+use Rattle.converter_forms.specs.ConverterForm.{converters_at}
 use Rattle.converter_read.proofs.converters.converters_at.Given as goal
 
 -- the converters so far, and those of what is left

@@ -1,7 +1,7 @@
 use Rattle.std.proofs.Common.{◌≡◌}
 use Rattle.serde_json.specs.View.{members_view}
 use Rattle.json_names.proofs.Fronts.{with_front}
-use Rattle.settings_definitions.specs.PatternForm.{patterns_from}
+use Rattle.converter_forms.specs.PatternForm.{patterns_from}
 use Rattle.converter_read.proofs.patterns.patterns_of.Given as goal
 
 -- the patterns so far, and those of what is left

@@ -1,6 +1,6 @@
 use Rattle.std.proofs.Common.{◌≡◌, []}
 use Rattle.serde_json.specs.View.{members_view}
-use Rattle.settings_definitions.specs.PatternForm.{texts_from}
+use Rattle.converter_forms.specs.PatternForm.{texts_from}
 use Rattle.converter_read.proofs.patterns.texts_of.Given as goal
 
 -- what is left goes to the texts so far

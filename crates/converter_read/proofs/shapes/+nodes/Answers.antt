@@ -2,7 +2,7 @@ use Rattle.std.proofs.Common.{ap, sym, ◌∙◌, ◌+◌, drop, arith}
 use Rattle.serde_json.specs.View.{view, items_view}
 use Rattle.json_names.proofs.Fronts.{with_front}
 use Rattle.converter_definitions.specs.Parts.{shape_of, shapes_of}
-use Rattle.settings_definitions.specs.ShapeForm.{nodes_at, node_at, behind, behind_all}
+use Rattle.converter_forms.specs.ShapeForm.{nodes_at, node_at, behind, behind_all}
 use Rattle.converter_read.proofs.Counts.{shapes_more, one_more, behind_more, left_from}
 use Rattle.converter_read.proofs.shapes.+nodes.Goals as goal
 

@@ -2,7 +2,7 @@ use Rattle.std.proofs.Common.{◌≡◌, ◌+◌, ◌*◌, drop}
 use Rattle.serde_json.specs.View.{items_view}
 use Rattle.json_names.proofs.Fronts.{with_front}
 use Rattle.converter_definitions.specs.Parts.{shapes_of}
-use Rattle.settings_definitions.specs.ShapeForm.{nodes_at, node_at, behind_all}
+use Rattle.converter_forms.specs.ShapeForm.{nodes_at, node_at, behind_all}
 use Rattle.converter_read.proofs.shapes.+nodes.Given as goal
 
 abbrev pub decreases-element_at : goal.decreases-element_at

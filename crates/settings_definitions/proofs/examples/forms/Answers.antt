@@ -9,33 +9,34 @@ use Rattle.json_names.specs.Names.{count_field, optional_count}
 use Rattle.json_values.specs.Values.{attributes_field}
 use Rattle.schema_definitions.specs.Allowed.{registered}
 use Rattle.schema_definitions.specs.Compiled.{predefined, first_unknown, first_bad_check}
-use Rattle.settings_definitions.specs.PatternForm.{from_pattern, index_pattern, object_pattern, pattern_at, key_pattern_at, patterns_from, patterns_field}
-use Rattle.settings_definitions.specs.PriorityForm.{priority_field}
-use Rattle.settings_definitions.specs.ViewForm.{empty_type_field, element_view_at}
-use Rattle.settings_definitions.specs.ConverterForm.{only_element_fields, element_converter_at, index_field, only_indexed_fields, only_plain_fields}
-use Rattle.settings_definitions.specs.ConverterForm.{only_custom_fields, custom_converter_at, kind_of, kind_field, kind_converter_at, converter_at}
-use Rattle.settings_definitions.specs.ConverterForm.{converters_at}
+use Rattle.converter_forms.specs.PatternForm.{from_pattern, index_pattern, object_pattern, pattern_at, key_pattern_at, patterns_from, patterns_field}
+use Rattle.converter_forms.specs.PriorityForm.{priority_field}
+use Rattle.converter_forms.specs.ViewForm.{empty_type_field, element_view_at}
+use Rattle.converter_forms.specs.ConverterForm.{only_element_fields, element_converter_at, index_field, only_indexed_fields, only_plain_fields}
+use Rattle.converter_forms.specs.ConverterForm.{only_custom_fields, custom_converter_at, kind_of, kind_field, kind_converter_at, converter_at}
+use Rattle.converter_forms.specs.ConverterForm.{converters_at}
 use Rattle.settings_definitions.specs.SchemaForm.{subject_at, list_name, flag_name, list_at, flag_at, places_at, sources_at, flags_at, entry_of}
 use Rattle.settings_definitions.specs.SchemaForm.{only_entry_fields, entry_at, entries_at, child_check_at, attribute_check_at, check_at, checks_at}
-use Rattle.settings_definitions.specs.Settings.{entries_field, checks_field, converters_field, form_at, form_of, refusal_of, settings_of}
+use Rattle.settings_definitions.specs.FixerForm.{fixer_of_word, custom_fixer_at, object_fixer_at, fixer_at, fixers_at}
+use Rattle.settings_definitions.specs.Settings.{entries_field, checks_field, fixers_field, converters_field, form_at, form_of, refusal_of, settings_of}
 use Rattle.settings_definitions.proofs.examples.forms.Goals as goal
 
 pub returns-clause-least : goal.returns-clause-least
-unfolding serde_json_on_literals chars is_utf8 digits is_name json_of object_at field_at only_fields name_at name_field names_at name_list_field
-    one_or_more names_field optional_name truth_field optional_truth count_field optional_count attributes_field registered predefined first_unknown
-    first_bad_check from_pattern index_pattern object_pattern pattern_at key_pattern_at patterns_from patterns_field priority_field empty_type_field
-    element_view_at only_element_fields element_converter_at index_field only_indexed_fields only_plain_fields only_custom_fields custom_converter_at
-    kind_of kind_field kind_converter_at converter_at converters_at subject_at list_name flag_name list_at flag_at places_at sources_at flags_at entry_of
-    only_entry_fields entry_at entries_at child_check_at attribute_check_at check_at checks_at entries_field checks_field converters_field form_at form_of
-    refusal_of settings_of
+unfolding serde_json_on_literals chars is_utf8 digits is_name json_of object_at field_at only_fields name_at name_field names_at name_list_field one_or_more
+    names_field optional_name truth_field optional_truth count_field optional_count attributes_field registered predefined first_unknown first_bad_check
+    from_pattern index_pattern object_pattern pattern_at key_pattern_at patterns_from patterns_field priority_field empty_type_field element_view_at
+    only_element_fields element_converter_at index_field only_indexed_fields only_plain_fields only_custom_fields custom_converter_at kind_of kind_field
+    kind_converter_at converter_at converters_at subject_at list_name flag_name list_at flag_at places_at sources_at flags_at entry_of only_entry_fields
+    entry_at entries_at child_check_at attribute_check_at check_at checks_at fixer_of_word custom_fixer_at object_fixer_at fixer_at fixers_at entries_field
+    checks_field fixers_field converters_field form_at form_of refusal_of settings_of
 returns-clause-least c = refl
 
 pub returns-clause-more : goal.returns-clause-more
-unfolding serde_json_on_literals chars is_utf8 digits is_name json_of object_at field_at only_fields name_at name_field names_at name_list_field
-    one_or_more names_field optional_name truth_field optional_truth count_field optional_count attributes_field registered predefined first_unknown
-    first_bad_check from_pattern index_pattern object_pattern pattern_at key_pattern_at patterns_from patterns_field priority_field empty_type_field
-    element_view_at only_element_fields element_converter_at index_field only_indexed_fields only_plain_fields only_custom_fields custom_converter_at
-    kind_of kind_field kind_converter_at converter_at converters_at subject_at list_name flag_name list_at flag_at places_at sources_at flags_at entry_of
-    only_entry_fields entry_at entries_at child_check_at attribute_check_at check_at checks_at entries_field checks_field converters_field form_at form_of
-    refusal_of settings_of
+unfolding serde_json_on_literals chars is_utf8 digits is_name json_of object_at field_at only_fields name_at name_field names_at name_list_field one_or_more
+    names_field optional_name truth_field optional_truth count_field optional_count attributes_field registered predefined first_unknown first_bad_check
+    from_pattern index_pattern object_pattern pattern_at key_pattern_at patterns_from patterns_field priority_field empty_type_field element_view_at
+    only_element_fields element_converter_at index_field only_indexed_fields only_plain_fields only_custom_fields custom_converter_at kind_of kind_field
+    kind_converter_at converter_at converters_at subject_at list_name flag_name list_at flag_at places_at sources_at flags_at entry_of only_entry_fields
+    entry_at entries_at child_check_at attribute_check_at check_at checks_at fixer_of_word custom_fixer_at object_fixer_at fixer_at fixers_at entries_field
+    checks_field fixers_field converters_field form_at form_of refusal_of settings_of
 returns-clause-more c = refl

@@ -1,0 +1,11 @@
+pub mod Turning
+pub mod Same
+pub mod Walking
+pub mod Walked
+pub mod Asked
+pub mod Runs
+pub mod Ancestors
+pub mod Denied
+pub mod Positions
+pub mod Ends
+pub mod Seeking

@@ -1,0 +1,3 @@
+pub mod Converters
+pub mod Lawful
+pub mod Indented
