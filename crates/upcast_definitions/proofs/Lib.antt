@@ -1,0 +1,9 @@
+pub mod Runs
+pub mod Fitting
+pub mod Placing
+pub mod Obeying
+pub mod Standing
+pub mod Levels
+pub mod Cuts
+pub mod Same
+pub mod Adding

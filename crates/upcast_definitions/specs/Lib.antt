@@ -1,0 +1,13 @@
+pub mod Form
+pub mod FormCode
+pub mod Depths
+pub mod Forms
+pub mod FormsFall
+pub mod Order
+pub mod Frames
+pub mod Places
+pub mod Taking
+pub mod Grouping
+pub mod Up
+pub mod Building
+pub mod Sample
