@@ -1,5 +1,5 @@
 -- What a round's answers mean, by what its parts have answered.
-use Rattle.std.proofs.Common.{◌≡◌, ◌≢◌, ℕ, zero, suc, ◌-◌, ◌<◌, List, Bool, true, false, Option, Some, None, option_map, Result, Ok, Err, OnOk, refl, sym, ap}
+use Rattle.std.proofs.Common.{◌≡◌, ◌≢◌, ℕ, zero, suc, ◌-◌, ◌<◌, List, ◌++◌, Bool, true, false, Option, Some, None, option_map, Result, Ok, Err, OnOk, refl, sym, ap}
 use Rattle.std.proofs.Common.{◌∙◌, arith}
 use Rattle.ck_base.specs.declared.faults.EditFault.{EditFault}
 use Rattle.ck_base.specs.declared.faults.EditFault.TheVariants as edit
@@ -10,7 +10,11 @@ use Rattle.fix_definitions.specs.declared.fault.SettleFault.{SettleFault}
 use Rattle.fix_definitions.specs.declared.fault.SettleFault.TheVariants.{NoMemory, FixerRefused, NotSettled}
 use Rattle.fix_definitions.specs.Fixes.{Fixing}
 use Rattle.fix_definitions.specs.Settling.{Plan, first_plan, fixer_number, after_plan, at_end, round, settled_in}
-use Rattle.post_fix.specs.Turns.{found_plan, Turns, Performs, Settles}
+use Rattle.model_doc.specs.Held.{Moment}
+use Rattle.model_doc.specs.Records.{Done}
+use Rattle.record_definitions.specs.Operates.{edits_after, edits_of_round}
+use Rattle.record_definitions.specs.Traced.{numbered, IsTracedBy}
+use Rattle.post_fix.specs.Turns.{found_plan, Turns, Performs, Settles, TurnTraces}
 
 -- a fault that isn't want of memory comes from an edit whose fault isn't
 pub refused : (fixer : ℕ) (wanted : Result State EditFault) (now : State) (fault : EditFault) (answer : SettleFault)
@@ -110,3 +114,19 @@ told_refusal wanted now (Ok done) h fixer inner e = absurd cc
 told_refusal wanted now (Err fault) h fixer inner e =
     let same : fault ≡ FixerRefused fixer inner = cc in
     h (λ f. (let both = sym same ∙ f in cc)) ∙ ap Err same
+
+-- ---- the records
+
+-- the edits of a plan were performed
+pub plan_traced : (registered : List ℕ → Bool) (fixings : List Fixing) (before records : List Done) (moment now : Moment) (fixer : ℕ) (edits : List Edit)
+    → option_map (λ fixer. (fixer, edits)) (Some fixer) ≡ option_map found_plan (first_plan 1 fixings moment.state.document)
+    → Performs fixer (all_performed registered 1 edits moment.state) now.state (Ok tt)
+    → IsTracedBy registered (numbered 1 edits) before moment records now → TurnTraces registered fixings before moment records now (Ok true)
+plan_traced registered fixings before records moment now fixer edits e made traced =
+    let plan = found registered fixings moment.state (first_plan 1 fixings moment.state.document) fixer edits e in (
+      numbered 1 edits,
+      traced,
+      λ next. ap (edits_of_round registered moment.state next) plan.1
+          ∙ ap (λ edits. numbered 1 edits ++ edits_after (all_performed registered 1 edits moment.state) next) (sym plan.3)
+          ∙ ap (λ r. numbered 1 edits ++ edits_after r next) made,
+    )

@@ -7,11 +7,12 @@ mod dropping;
 pub mod fixer;
 pub mod list;
 mod names;
-mod performing;
+pub mod performing;
 mod placing;
 mod planning;
 pub mod settling;
 mod stock;
 mod walk;
 
+pub use performing::perform_all;
 pub use settling::settle;

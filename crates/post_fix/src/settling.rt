@@ -3,11 +3,14 @@ ghost use Rattle.std.specs.Prelude.{◌≡◌, ℕ, ◌≢◌, Ok, Err, IfErr, O
 ghost use Rattle.ck_base.specs.declared.faults.EditFault.{EditFault};
 ghost use Rattle.ck_base.specs.declared.faults.EditFault.TheVariants.{NoMemory as NoMemoryForEdit};
 ghost use Rattle.edit_definitions.specs.Performed.{all_performed};
+ghost use Rattle.model_doc.specs.Held.{present};
+ghost use Rattle.record_definitions.specs.Operates.{edits_of_rounds};
+ghost use Rattle.record_definitions.specs.Traced.{numbered, Traces};
 ghost use Rattle.schema_definitions.specs.Allowed.{is_registered};
 ghost use Rattle.fix_definitions.specs.declared.fault.SettleFault.TheVariants.{NoMemory as OutOfMemory};
 ghost use Rattle.fix_definitions.specs.Settling.{first_plan, at_end, settle};
 ghost use Rattle.post_fix.specs.Listed.{fixings_of};
-ghost use Rattle.post_fix.specs.Turns.{Turns, Performs, Settles};
+ghost use Rattle.post_fix.specs.Turns.{Turns, Performs, Settles, TurnTraces};
 
 use crate::list::FixerList;
 use crate::performing::perform_all;
@@ -40,6 +43,8 @@ fn make(
     batch: &mut Batch,
 ) -> Result<(), SettleFault>
     ensures performs { Performs fixer (all_performed (is_registered schema.now) 1 edits.now document.old.state) document.new.state result }
+    ensures traced { Traces (is_registered schema.now) (numbered 1 edits.now) batch.old.records (present document.old) batch.new.records
+        (present document.new) result }
     ensures selection { batch.new.selection ≡ batch.old.selection }
     ensures kept { document.new.kept ≡ document.old.kept }
 {
@@ -50,7 +55,7 @@ fn make(
 }
 
 /// Makes the plan of the first fixer that wants something. It answers whether there was one.
-#[tactic(auto, using(crate::proofs::Turning::none_wanted, crate::proofs::Turning::turned, crate::proofs::Turning::not_turned))]
+#[tactic(auto, using(crate::proofs::Turning::none_wanted, crate::proofs::Turning::turned, crate::proofs::Turning::not_turned, crate::proofs::Turning::plan_traced))]
 fn round(
     document: &mut Document,
     schema: &Schema,
@@ -58,6 +63,8 @@ fn round(
     batch: &mut Batch,
 ) -> Result<bool, SettleFault>
     ensures turns { Turns (is_registered schema.now) (fixings_of schema.now (λ object. fixes object) fixers.now) document.old.state document.new.state result }
+    ensures traced { TurnTraces (is_registered schema.now) (fixings_of schema.now (λ object. fixes object) fixers.now) batch.old.records
+        (present document.old) batch.new.records (present document.new) result }
     ensures selection { batch.new.selection ≡ batch.old.selection }
     ensures kept { document.new.kept ≡ document.old.kept }
 {
@@ -96,7 +103,7 @@ fn at_rest(
 }
 
 /// Brings a document to rest, in at most so many rounds.
-#[tactic(auto, using(crate::proofs::Turning::stepped, crate::proofs::Turning::rested, crate::proofs::Turning::ended))]
+#[tactic(auto, using(crate::proofs::Turning::stepped, crate::proofs::Turning::rested, crate::proofs::Turning::ended, record_definitions::proofs::Tracing::begins, record_definitions::proofs::Tracing::stops_behind, record_definitions::proofs::Tracing::stops, record_definitions::proofs::Turning::ends_at_rest, record_definitions::proofs::Turning::ends_with_rounds))]
 fn settled(
     document: &mut Document,
     schema: &Schema,
@@ -106,6 +113,9 @@ fn settled(
 ) -> Result<(), SettleFault>
     ensures settles { Settles (settle (is_registered schema.now) (fixings_of schema.now (λ object. fixes object) fixers.now) rounds document.old.state)
         document.new.state result }
+    ensures traced { Traces (is_registered schema.now)
+        (edits_of_rounds (is_registered schema.now) (fixings_of schema.now (λ object. fixes object) fixers.now) rounds document.old.state)
+        batch.old.records (present document.old) batch.new.records (present document.new) result }
     ensures selection { batch.new.selection ≡ batch.old.selection }
     ensures kept { document.new.kept ≡ document.old.kept }
 {
@@ -142,6 +152,9 @@ pub fn settle(
     ensures fixer_refused { (fixer : ℕ) (inner : EditFault) → result ≡ Err (SettleFault.FixerRefused fixer inner)
         → settle (is_registered schema.now) (fixings_of schema.now (λ object. fixes object) fixers.now) rounds document.old.state
         ≡ Err (SettleFault.FixerRefused fixer inner) }
+    ensures traced { Traces (is_registered schema.now)
+        (edits_of_rounds (is_registered schema.now) (fixings_of schema.now (λ object. fixes object) fixers.now) rounds document.old.state)
+        batch.old.records (present document.old) batch.new.records (present document.new) result }
     ensures selection { batch.new.selection ≡ batch.old.selection }
     ensures kept { document.new.kept ≡ document.old.kept }
 {

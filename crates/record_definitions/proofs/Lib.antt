@@ -1,3 +1,5 @@
 pub mod Brings
 pub mod Orders
 pub mod Leading
+pub mod Tracing
+pub mod Turning
