@@ -8,7 +8,6 @@ ghost use Rattle.document_definitions.specs.Document.{ids_of};
 ghost use Rattle.pos_mapper.specs.Bindings.{numbers_of};
 ghost use Rattle.pos_mapper.specs.Mapped.{IsMapped};
 ghost use Rattle.downcast_definitions.specs.Numbered.{AreNumbered};
-ghost use Rattle.edit_definitions.specs.Performed.{all_performed};
 ghost use Rattle.edit_definitions.specs.Performed.{edits_made};
 ghost use Rattle.fix_definitions.specs.Settling.{settled};
 ghost use Rattle.step_definitions.specs.Step.{step, settle_refusal};
@@ -23,33 +22,15 @@ use down_whole::whole::downcast;
 use edit_definitions::edit::Edit;
 use fix_definitions::fault::SettleFault;
 use model_doc::Document;
-use model_writer::{Batch, perform};
+use model_writer::Batch;
 use pos_mapper::mapper::Mapper;
-use post_fix::settle;
+use post_fix::{perform_all, settle};
 use schema_rules::schema::Schema;
 use std::alloc::Global;
 use view_tree::view::View;
 
-/// Makes edits in order, numbered from 1. It answers the first fault, or `NoMemory`; then the edits before it are made. What the document
-/// keeps stays kept.
-fn perform_all(
-    document: &mut Document,
-    schema: &Schema,
-    edits: &[Edit],
-    batch: &mut Batch,
-) -> Result<(), EditFault>
-    ensures ok { OnOk result (all_performed (is_registered schema.now) 1 edits.now document.old.state ≡ Ok document.new.state) }
-    ensures refused { IfErr result (λ fault. fault ≢ NoMemoryForEdit
-        → all_performed (is_registered schema.now) 1 edits.now document.old.state ≡ Err fault) }
-    ensures kept { document.new.kept ≡ document.old.kept }
-{
-    for (index, edit) in edits.iter().enumerate() {
-        perform(document, schema, edit, index as u64 + 1, batch)?;
-    }
-    Ok(())
-}
-
-/// Makes edits in order, as `perform_all`. What becomes of the document doesn't hang on what its cells hold.
+/// Makes edits in order, numbered from 1. It answers the first fault, or `NoMemory`; then the edits before it are made. What becomes of the document
+/// doesn't hang on what its cells hold, and what it keeps stays kept.
 fn make_edits(
     document: &mut Document,
     schema: &Schema,
