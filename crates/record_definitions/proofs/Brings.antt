@@ -23,7 +23,8 @@ use Rattle.edit_definitions.specs.declared.edit.Target.{Target}
 use Rattle.edit_definitions.proofs.Stay.{there-place}
 use Rattle.edit_definitions.specs.Places.{is_there, is_range, are_in_one, is_element, is_between, is_known}
 use Rattle.edit_definitions.specs.Runs.{Run, attribute_runs, give_in, runs_of, items_of_range, item_with_ids, inner_with_ids, with_ids}
-use Rattle.edit_definitions.specs.Planned.{◌>>=◌, check, ids_left, insertion, empty_element, removals, moved_run, count_in, given_to, parts_of, renaming, name_of}
+use Rattle.edit_definitions.specs.Planned.{◌>>=◌, check, ids_left, insertion, empty_element, removals, moved_run, count_in, given_to, parts_of, renaming}
+use Rattle.edit_definitions.specs.Planned.{name_of}
 use Rattle.edit_definitions.specs.Planned.{known_names, unknown_in, operations_of}
 use Rattle.record_definitions.specs.Brought.{BringsInOrder}
 

@@ -101,7 +101,8 @@ module _ (keeps_order : KeepsOrder) where
       (sym (all-same operations outward (length state.cells) 0 state.document state.cells [] refl refl)
       ∙ ap (λ all. document_in (all_applied all state)) (sym these) ∙ ap document_in e) in
       subst (λ (document : Document). AreOrdered document.items) twin.2
-      (all-keyed (numbered_from 0 operations) (apart state.document) twin.0 (alone-keyed state.document ordered) (all-numbered-bring 0 operations brings) twin.1).items
+      (all-keyed (numbered_from 0 operations) (apart state.document) twin.0 (alone-keyed state.document ordered)
+      (all-numbered-bring 0 operations brings) twin.1).items
 
   pub planned_in_order : (registered : List ℕ → Bool) (number : ℕ) (edit : Edit) (state : State) (operations : List Operation) → BringsInOrder edit
       → AreOrdered state.document.items → operations_of registered number edit state ≡ Ok operations → AreInOrder operations state

@@ -119,7 +119,8 @@ module _ (registered : List ℕ → Bool) where
   -- ---- they lead back
 
   module _ (keeps_order : KeepsOrder) where
-    all_lead : (edits : List (ℕ × Edit)) (start : Moment) (before records : List Done) (old new : Moment) → IsFit old.state → Lead registered edits old records new
+    all_lead : (edits : List (ℕ × Edit)) (start : Moment) (before records : List Done) (old new : Moment) → IsFit old.state
+        → Lead registered edits old records new
         → LedBack start (reverse before) old → LedBack start (reverse (before ++ records)) new × IsFit new.state
     all_lead [] start before records old new fit lead led = (
       subst (λ rs. LedBack start (reverse (before ++ rs)) new) (sym lead.0)
